@@ -1,0 +1,10 @@
+pub mod Sum
+pub mod Mul
+pub mod Pow
+pub mod Remainder
+pub mod Field
+pub mod Generator
+pub mod Multiples
+pub mod Divided
+pub mod Table
+pub mod Tables

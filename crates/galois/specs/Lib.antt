@@ -1,0 +1,5 @@
+pub mod Gf
+pub mod Tables
+pub mod FieldLaws
+pub mod Multiples
+pub mod Quotient
