@@ -2,7 +2,7 @@
 // and `exp_at`, each proved once over the whole table.
 
 pub(crate) const GF256_LOG_TABLE: [u8; 256] = [
-    0,
+    0, // of 0: it means nothing
     0,
     25,
     1,
