@@ -7,7 +7,7 @@ use Prim.Native.Nat.{ℕ, _<_}
 use native.Mathlib.Nat as nat
 use Rattle.galois.specs.Gf.{mul, pow, inv, Inverse}
 use Rattle.galois.specs.FieldLaws.{FieldLaws}
-use Rattle.galois.proofs.Mul.{mul-comm, mul-assoc, mul-⊕, mul-one, mul-lt}
+use Rattle.galois.proofs.Mul.{mul-comm, mul-assoc, mul-⊕, mul-one, mul-x, mul-lt}
 use Rattle.galois.proofs.Pow.{pow-more, pow-lt, pow-one, pow-product}
 use Rattle.galois.proofs.Field.{inv-unique}
 
@@ -36,6 +36,7 @@ module _ (p : ℕ) (hp : p < 256) (g : ℕ) (cycle : pow p g 255 ≡ 1)
         mul-comm = mul-comm p;
         mul-⊕ = mul-⊕ p;
         mul-one = mul-one p;
+        mul-x = mul-x p;
         inv-lt = inv-lt;
         mul-inv = mul-inv;
       }

@@ -2,14 +2,15 @@
 -- Assumes nothing.
 use mathlib.Core.Path.{_≡_, refl, sym, ap, ap₂, _∙_}
 use mathlib.Core.List.{List, [], _∷_}
-use Prim.Native.Nat.{ℕ, zero, suc, _*_, _/_, _%_, _^_, _<_}
+use Prim.Native.Nat.{ℕ, zero, suc, _+_, _*_, _/_, _%_, _^_, _<_}
 use native.Mathlib.Nat.{mod-one, mod-eq-of-lt, pow-suc}
 use native.Mathlib.Nat as nat
+use native.Mathlib.Omega.{arith}
 use Rattle.galois.specs.Gf.{_⊕_}
 use Rattle.galois.specs.FieldLaws.{FieldLaws}
 use Rattle.galois.specs.Multiples.{multiplesOf}
-use Rattle.galois.proofs.Sum.{⊕-shl, low-bits, digit, digit-through}
-use Rattle.galois.proofs.Field.{mul-zero}
+use Rattle.galois.proofs.Sum.{⊕-comm, ⊕-shl, ⊕-above, low-bits, digit, digit-through}
+use Rattle.galois.proofs.Field.{mul-zero, mul-left-comm}
 
 -- the sum of those multiples whose bit is set in b, the lowest bit first
 unfoldable pub chosen : List ℕ → ℕ → ℕ
@@ -41,3 +42,20 @@ module _ (F : FieldLaws) (q : ℕ) where
   pub by-bits : (b : ℕ) → b < 256 → chosen (multiplesOf F q) b ≡ F .mul q b
   unfolding multiplesOf doubling
   by-bits b h = by-doubling 8 0 b ∙ ap (F .mul q) (nat.mul-one (b % 256) ∙ mod-eq-of-lt h)
+
+-- ---- multiplication by x
+
+module _ (F : FieldLaws) where
+  -- of a byte: each bit moves up, and x · x^7 stands for the one that falls out
+  pub by-x : (a : ℕ) → a < 256 → F .mul 2 a ≡ a % 128 * 2 ⊕ a / 128 * F .mul 2 128
+  by-x a h =
+      let bit : a / 128 < 2 = omega arith in
+      let low : a % 128 < 128 = omega arith in
+      let parts : a ≡ a / 128 * 128 + a % 128 = omega arith in
+      ap (F .mul 2) (parts ∙ sym (⊕-above (a / 128) 7 (a % 128) low)) ∙ F .mul-⊕ 2 (a / 128 * 128) (a % 128)
+      ∙ ap₂ (λ (x y : ℕ). x ⊕ y) (digit-through (F .mul 2) (mul-zero F 2) (a / 128) 128 bit) (F .mul-x (a % 128) low)
+      ∙ ⊕-comm (a / 128 * F .mul 2 128) (a % 128 * 2)
+
+  -- the next of the multiples of q
+  pub next-multiple : (q w : ℕ) → w < 128 → F .mul q (w * 2) ≡ F .mul 2 (F .mul q w)
+  next-multiple q w h = ap (F .mul q) (sym (F .mul-x w h)) ∙ mul-left-comm F q 2 w
