@@ -2,7 +2,7 @@
 use mathlib.Core.Path.{_≡_}
 use mathlib.Core.List.{List, [], _∷_, _++_}
 use Prim.Native.Nat.{ℕ, zero, suc, _*_}
-use lib.ListN.{length, take, drop, replicate}
+use lib.ListN.{take, drop}
 
 -- the n rows of `width` bytes at the front of a buffer
 unfoldable pub rowsOf : ℕ → ℕ → List ℕ → List (List ℕ)

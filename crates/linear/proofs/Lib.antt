@@ -1,0 +1,16 @@
+pub mod All
+pub mod Buffer
+pub mod Sums
+pub mod Pivot
+pub mod Drop
+pub mod Steps
+pub mod Independence
+pub mod Subspace
+pub mod Diagonal
+pub mod Dot
+pub mod Linear
+pub mod Coding
+pub mod Kernel
+pub mod Blocks
+pub mod Engine
+pub mod RowRules
