@@ -14,3 +14,5 @@ pub mod Kernel
 pub mod Blocks
 pub mod Engine
 pub mod RowRules
+pub mod Flat
+pub mod Sizes

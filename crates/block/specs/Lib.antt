@@ -1,0 +1,5 @@
+pub mod Sizes
+pub mod Refusal
+pub mod Counts
+pub mod Padding
+pub mod Reading
