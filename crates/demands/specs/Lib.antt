@@ -1,1 +1,5 @@
+pub mod History
+pub mod Demand3
+pub mod Calls
+pub mod Witness
 pub mod Worked

@@ -1,0 +1,46 @@
+-- The tests of the sizes, as bounds.
+-- Assumes nothing.
+use mathlib.Core.Path.{_≡_, refl, sym}
+use mathlib.Core.Bool.{Bool, true, false, _&&_, _||_, not, false≢true}
+use Prim.Native.Nat.{ℕ, _*_, _≤_, _<_}
+use native.Mathlib.Nat.{mul-le-mul}
+use native.Mathlib.Omega.{arith}
+use lib.Dec.{eqb, ltb}
+use borrow.Author.Tests.{ltb-false, eqb-false, not-true}
+use Rattle.block.specs.Sizes.{overLimit, sized}
+
+pub or-false : (s t : Bool) → (s || t) ≡ false → (s ≡ false) × (t ≡ false)
+or-false true t e = absurd (false≢true (sym e))
+or-false false t e = (refl, e)
+
+pub and-true : (s t : Bool) → (s && t) ≡ true → (s ≡ true) × (t ≡ true)
+and-true true t e = (refl, e)
+and-true false t e = absurd (false≢true e)
+
+pub record Limited (k L : ℕ) : Type 0 where
+  pub pieces : k ≤ 256
+  pub bytes : L ≤ 4096
+
+pub limited : (k L : ℕ) → overLimit k L ≡ false → Limited k L
+unfolding overLimit
+limited k L e =
+    let t = or-false (ltb 256 k) (ltb 4096 L) e in
+    record { pieces = ltb-false 256 k (t .0); bytes = ltb-false 4096 L (t .1) }
+
+-- a block of such sizes
+pub block-within : (k L : ℕ) → Limited k L → k * L ≤ 1048576
+block-within k L b = mul-le-mul (b .pieces) (b .bytes)
+
+pub record Within (k L : ℕ) : Type 0 where
+  pub some-pieces : 0 < k
+  pub some-bytes : 0 < L
+  pub limits : Limited k L
+
+pub within : (k L : ℕ) → sized k L ≡ true → Within k L
+unfolding sized
+within k L e =
+    let t = and-true (not (eqb k 0)) _ e in
+    let u = and-true (not (eqb L 0)) _ (t .1) in
+    let nk : k ≡ 0 → ⊥ = eqb-false k 0 (not-true (eqb k 0) (t .0)) in
+    let nL : L ≡ 0 → ⊥ = eqb-false L 0 (not-true (eqb L 0) (u .0)) in
+    record { some-pieces = omega arith; some-bytes = omega arith; limits = limited k L (not-true (overLimit k L) (u .1)) }

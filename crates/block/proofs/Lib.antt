@@ -1,0 +1,6 @@
+pub mod Refusal
+pub mod LastMarker
+pub mod Filling
+pub mod Reading
+pub mod Bounds
+pub mod Chosen

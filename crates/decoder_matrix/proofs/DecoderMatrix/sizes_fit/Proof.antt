@@ -1,0 +1,31 @@
+-- `decoder_matrix::DecoderMatrix::sizes_fit` meets its contract: k rows of cols bytes fit into n bytes where k is at most n / cols.
+-- Assumes nothing.
+use mathlib.Core.Path.{sym, _∙_}
+use Prim.Native.Nat.{_*_, _≤_}
+use borrow.Author.Tests.{le-leb}
+use Rattle.decoder_matrix.specs.Matrix.{kOf}
+use borrow.Author.Needs.{needs}
+use native.Mathlib.Omega.{arith}
+use Rattle.decoder_matrix.proofs.Sizes.{by-division, fitting, too-many, too-narrow}
+use Rattle.decoder_matrix.proofs.DecoderMatrix.sizes_fit.Statement.{statement}
+use Rattle.decoder_matrix.proofs.DecoderMatrix.sizes_fit.Tie as tie
+
+returns : tie.Need-returns
+returns c = sym (too-many (c .before .args .self) (c .before .args .n) (omega arith))
+
+returns-2 : tie.Need-returns-2
+returns-2 c = sym (too-narrow (c .before .before .args .self) (c .before .before .args .n) (omega arith) (omega arith))
+
+returns-3 : tie.Need-returns-3
+returns-3 c =
+    let a = c .before .before .before .args in
+    let none : kOf (a .self) * a .self .cols ≤ a .n = rw (c .if3 .taken) (omega arith) in
+    sym (fitting (a .self) (a .n) (omega arith) (omega arith) ∙ le-leb _ _ none)
+
+returns-4 : tie.Need-returns-4
+returns-4 c =
+    let a = c .before .before .before .args in
+    by-division (kOf (a .self)) (a .self .cols) (a .n) (omega arith) ∙ sym (fitting (a .self) (a .n) (omega arith) (omega arith))
+
+pub sizes-fit-spec : {M : Type 1} → statement M
+sizes-fit-spec = tie.close (tie.spec returns returns-2 returns-3 (λ c. search needs) returns-4)

@@ -1,0 +1,6 @@
+pub mod Turned
+pub mod RowLaws
+pub mod PartLaws
+pub mod Outcomes
+pub mod OneResult
+pub mod Zero
