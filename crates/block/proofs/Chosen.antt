@@ -1,13 +1,15 @@
 -- What the definitions choose, by the test or the answer that they choose by.
 -- Assumes nothing.
-use mathlib.Core.Path.{_≡_, refl, sym, ap}
-use mathlib.Core.Bool.{Bool, true, false}
+use mathlib.Core.Path.{_≡_, refl, sym, ap, _∙_}
+use mathlib.Core.Bool.{Bool, true, false, not}
 use Prim.Native.Nat.{ℕ, zero, suc, _<_}
 use native.Mathlib.Nat.{not-suc-le-zero}
+use native.Mathlib.Omega.{arith}
+use borrow.Author.Tests.{not-true, not-false}
 use Rattle.answers.specs.Number.{numberOf}
 use Rattle.answers.specs.declared.Answer.{Answer}
-use Rattle.answers.specs.declared.Answer.the-variants.{BadState}
-use Rattle.linear.specs.Choice.{ifZero}
+use Rattle.answers.specs.declared.Answer.the-variants.{Ok, BadState}
+use Rattle.linear.specs.Choice.{pick, ifZero}
 use Rattle.block.specs.Refusal.{ifOk}
 use Rattle.block.specs.Counts.{counted}
 use Rattle.block.specs.declared.Count.the-variants.{Of, Refused}
@@ -27,3 +29,17 @@ counts n e = rw e refl
 pub counts-not : {t : Bool} (n : ℕ) → t ≡ false → Refused BadState ≡ counted t n
 unfolding counted
 counts-not n e = rw e refl
+
+-- ---- an order of refusals, from its end
+
+pub passes : (t : Bool) (a b : Answer) → 0 < numberOf a → pick t a b ≡ Ok → (t ≡ false) × (b ≡ Ok)
+passes true a b n e = let z : numberOf a ≡ 0 = ap numberOf e in absurd (omega arith)
+passes false a b n e = (refl, e)
+
+-- ---- the two sides of a test `!self.holds(..)`
+
+pub refuses : (bad : Bool) {t : Bool} → t ≡ not bad → not t ≡ true → bad ≡ true
+refuses bad {t} e h = not-false bad (sym e ∙ not-true t h)
+
+pub accepts : (bad : Bool) {t : Bool} → t ≡ not bad → not t ≡ false → bad ≡ false
+accepts bad {t} e h = not-true bad (sym e ∙ not-false t h)

@@ -1,6 +1,7 @@
-pub mod Refusal
 pub mod LastMarker
 pub mod Filling
 pub mod Reading
 pub mod Bounds
 pub mod Chosen
+pub mod RowBytes
+pub mod Refusal

@@ -1,8 +1,10 @@
 -- The answers of the decoder's entries: the paper's number for each case, and its values. Of a decoder the values are k, L, rows and taken.
-use mathlib.Core.Bool.{Bool, true, false}
+use mathlib.Core.Bool.{_||_}
 use mathlib.Core.List.{List, [], _∷_}
 use Prim.Native.Nat.{ℕ}
+use lib.Dec.{eqb}
 use Rattle.answers.specs.Number.{numberOf}
+use Rattle.linear.specs.Choice.{pick}
 use Rattle.decoder.specs.declared.Decoder.{Decoder}
 use Rattle.decoder.specs.declared.Made.{Made}
 use Rattle.decoder.specs.declared.Made.the-variants as new
@@ -34,6 +36,16 @@ unfoldable pub takenValues : Taken → List ℕ
 takenValues (piece.Useful d) = valuesOf d
 takenValues (piece.NotUseful d) = valuesOf d
 takenValues (piece.Refused a) = []
+
+-- how many pieces an answer of this number takes: "Taken equals the number of answers 0 and 8"
+unfoldable pub takes : ℕ → ℕ
+takes n = pick (eqb n 0 || eqb n 8) 1 0
+
+-- the record that the caller goes on with: its own where the piece was refused
+unfoldable pub kept : Decoder → Taken → Decoder
+kept d (piece.Useful e) = e
+kept d (piece.NotUseful e) = e
+kept d (piece.Refused a) = d
 
 unfoldable pub completeNumber : Complete → ℕ
 completeNumber (complete.Of b) = 0

@@ -1,9 +1,8 @@
 -- The decoder's record and its lent matrix: k rows of F bytes, of which the first are held.
 use mathlib.Core.Bool.{Bool, _&&_, _||_, not}
-use mathlib.Core.List.{List, [], _∷_, _++_}
-use Prim.Native.Nat.{ℕ, _+_, _-_, _*_}
+use mathlib.Core.List.{List}
+use Prim.Native.Nat.{ℕ, _+_, _*_}
 use lib.Dec.{leb, ltb}
-use lib.ListN.{length, drop, replicate}
 use Rattle.linear.specs.Buffer.{rowsOf}
 use Rattle.block.specs.Sizes.{sized}
 use Rattle.decoder.specs.declared.Decoder.{Decoder}

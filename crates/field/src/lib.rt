@@ -37,19 +37,25 @@ impl Field {
         Quotient::Byte(self.mul(a, i))
     }
 
+    fn times_x(self, a: u8) -> u8
+        ensures { λ r. ⌜ r ≡ fieldOf self .mul 2 a ⌝ }
+    {
+        match self {
+            Field::Fips197 => Gf256::times_x(a),
+        }
+    }
+
     // q times 1, x, .., x^7: a product with q is the sum of those that the other factor's bits choose.
     pub fn multiples(self, q: u8) -> [u8; 8]
         ensures { λ r. ⌜ r ≡ multiplesOf (fieldOf self) q ⌝ }
     {
-        [
-            self.mul(q, 1),
-            self.mul(q, 2),
-            self.mul(q, 4),
-            self.mul(q, 8),
-            self.mul(q, 16),
-            self.mul(q, 32),
-            self.mul(q, 64),
-            self.mul(q, 128),
-        ]
+        let m1 = self.times_x(q);
+        let m2 = self.times_x(m1);
+        let m3 = self.times_x(m2);
+        let m4 = self.times_x(m3);
+        let m5 = self.times_x(m4);
+        let m6 = self.times_x(m5);
+        let m7 = self.times_x(m6);
+        [q, m1, m2, m3, m4, m5, m6, m7]
     }
 }

@@ -127,11 +127,13 @@ module _ (p : ℕ) where
   mul-one a h = mul-comm a 1 ∙ mul-times 1 a ∙ times-one 8 a (le-refl 8) ∙ mod-eq-of-lt h
 
   -- x is 2
-  pub mul-x : (a : ℕ) → a < 128 → mul p 2 a ≡ a * 2
-  mul-x a h =
-      let byte : a < 256 = omega arith in
+  pub mul-two : (a : ℕ) → a < 256 → mul p 2 a ≡ xtime p a
+  mul-two a h =
       mul-times 2 a ∙ ap (λ (x : ℕ). times p 8 x a) (sym (xtime-small 1 (omega arith))) ∙ times-xtime 8 1 a
-      ∙ ap (xtime p) (times-one 8 a (le-refl 8) ∙ mod-eq-of-lt byte) ∙ xtime-small a h
+      ∙ ap (xtime p) (times-one 8 a (le-refl 8) ∙ mod-eq-of-lt h)
+
+  pub mul-x : (a : ℕ) → a < 128 → mul p 2 a ≡ a * 2
+  mul-x a h = mul-two a (omega arith) ∙ xtime-small a h
 
   pub zero-mul : (b : ℕ) → mul p 0 b ≡ 0
   unfolding mul

@@ -78,6 +78,13 @@ impl Gf256 {
         exp_at(l + r)
     }
 
+    // a times x, with no table.
+    pub fn times_x(a: u8) -> u8
+        ensures { λ r. ⌜ r ≡ mul polynomial 2 a ⌝ }
+    {
+        if a < 128 { a * 2 } else { (a - 128) * 2 ^ 0x1b }
+    }
+
     pub fn inv(self) -> Quotient
         ensures { λ r. ⌜ r ≡ inverseOf (inverse polynomial) (self .val) ⌝ }
     {

@@ -4,3 +4,5 @@ pub mod PartLaws
 pub mod Outcomes
 pub mod OneResult
 pub mod Zero
+pub mod CombineLaws
+pub mod Combined

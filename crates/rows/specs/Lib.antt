@@ -1,2 +1,3 @@
 pub mod Parts
 pub mod Outcomes
+pub mod Combining

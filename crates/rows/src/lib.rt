@@ -13,6 +13,10 @@ ghost use Rattle.rows.specs.Outcomes.{addRow, summedPart, addedPart, Sca
 use answers::Answer;
 use field::Field;
 
+mod combining;
+
+pub use combining::combine;
+
 // Each byte times the scalar.
 pub fn inplace_mul_vec_by_scalar(f: Field, vec: &mut [u8], scalar: u8)
     ensures { λ _. ⌜ Scaled (fieldOf f) scalar (now (vec .entry)) (now (vec .exit)) ⌝ }

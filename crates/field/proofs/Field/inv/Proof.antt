@@ -1,6 +1,6 @@
 -- `field::Field::inv` meets its contract: the inverse in the field named.
 -- Assumes nothing.
-use mathlib.Core.Path.{ap, ap₂, _∙_}
+use mathlib.Core.Path.{ap₂, _∙_}
 use Prim.Native.Nat.{ℕ}
 use borrow.Author.Needs.{needs}
 use Rattle.galois.specs.Quotient.{inverseOf}

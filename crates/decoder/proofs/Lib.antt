@@ -1,0 +1,10 @@
+pub mod Sound
+pub mod Outcomes
+pub mod Marker
+pub mod Payload
+pub mod Search
+pub mod Copying
+pub mod Accepted
+pub mod Taking
+pub mod OneResult
+pub mod Counters

@@ -1,0 +1,4 @@
+pub mod State
+pub mod Outcomes
+pub mod OneResult
+pub mod Truthful
