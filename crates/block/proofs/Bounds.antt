@@ -1,24 +1,15 @@
 -- The tests of the sizes, as bounds.
 -- Assumes nothing.
-use mathlib.Core.Path.{_≡_, refl, sym, ap, _∙_}
-use mathlib.Core.Bool.{Bool, true, false, _&&_, _||_, not, false≢true}
+use mathlib.Core.Path.{_≡_, sym, ap, _∙_}
+use mathlib.Core.Bool.{true, false, not}
 use Prim.Native.Nat.{ℕ, _*_, _≤_, _<_}
 use native.Mathlib.Nat.{mul-le-mul}
 use native.Mathlib.Decide.{decLe}
 use native.Mathlib.Omega.{arith}
 use lib.Dec.{eqb, leb, ltb}
 use borrow.Author.Tests.{ltb-false, eqb-false, not-true, le-leb, lt-leb, le-ltb, lt-ltb}
+use Rattle.linear.proofs.Choice.{and-true, or-false}
 use Rattle.block.specs.Sizes.{overLimit, sized}
-
--- ---- tests
-
-pub or-false : (s t : Bool) → (s || t) ≡ false → (s ≡ false) × (t ≡ false)
-or-false true t e = absurd (false≢true (sym e))
-or-false false t e = (refl, e)
-
-pub and-true : (s t : Bool) → (s && t) ≡ true → (s ≡ true) × (t ≡ true)
-and-true true t e = (refl, e)
-and-true false t e = absurd (false≢true e)
 
 pub not-less : (a b : ℕ) → leb a b ≡ not (ltb b a)
 not-less a b = go (decLe a b)

@@ -4,4 +4,3 @@ pub mod Reading
 pub mod Bounds
 pub mod Chosen
 pub mod RowBytes
-pub mod Refusal

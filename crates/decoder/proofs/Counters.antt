@@ -21,6 +21,7 @@ use Rattle.linear.specs.Rows.{takePiece}
 use Rattle.linear.proofs.Buffer.{length-rowsOf}
 use Rattle.linear.proofs.Steps.{reduce-le}
 use Rattle.block.specs.Sizes.{overLimit}
+use Rattle.block.proofs.Chosen.{passes}
 use Rattle.decoder.specs.declared.Decoder.{Decoder}
 use Rattle.decoder.specs.declared.Made.the-variants as new
 use Rattle.decoder.specs.declared.Taken.{Taken}
@@ -30,7 +31,7 @@ use Rattle.decoder.specs.Answers.{takenNumber, takes, kept}
 use Rattle.decoder.specs.Entries.{decoderOf, newRefusal, NewDecoder, takeRefusal, rowsAfter, after, taking, Decoded}
 use Rattle.decoder.proofs.Sound.{Sound, within, shown}
 use Rattle.decoder.proofs.Outcomes.{if-refused}
-use Rattle.decoder.proofs.Accepted.{Accepted, passed, accepted}
+use Rattle.decoder.proofs.Accepted.{Accepted, accepted}
 
 -- ---- a new record
 
@@ -38,9 +39,9 @@ pub new-sound : {L k : ℕ} {elements last : List ℕ} {d : Decoder} → NewDeco
 unfolding newRefusal
 new-sound {L} {k} {elements} {last} {d} h =
     let (zeroth, same) = made (numberOf (newRefusal L k (length elements))) (h .result) in
-    let bytes = passed (eqb L 0) PieceLengthZero _ (λ e. omega arith) (numbers-tell (newRefusal L k (length elements)) Ok .1 zeroth) in
-    let pieces = passed (eqb k 0) PieceCountZero _ (λ e. omega arith) (bytes .1) in
-    let limits = within k L (passed (overLimit k L) SizeOverLimit _ (λ e. omega arith) (pieces .1) .0) in
+    let bytes = passes (eqb L 0) PieceLengthZero _ (omega arith) (numbers-tell (newRefusal L k (length elements)) Ok .1 zeroth) in
+    let pieces = passes (eqb k 0) PieceCountZero _ (omega arith) (bytes .1) in
+    let limits = within k L (passes (overLimit k L) SizeOverLimit _ (omega arith) (pieces .1) .0) in
     ap sound same ∙ shown (decoderOf k L 0 0) (record {
       some-pieces = eqb-false k 0 (pieces .0);
       some-bytes = eqb-false L 0 (bytes .0);

@@ -1,16 +1,17 @@
 -- Each outcome by its order of refusals: the one of a refusal, which leaves the buffer be, and the one where there is none.
 -- Assumes nothing.
-use mathlib.Core.Path.{_≡_, refl}
+use mathlib.Core.Path.{_≡_, refl, sym}
 use mathlib.Core.List.{List, _++_}
-use Prim.Native.Nat.{ℕ, zero, suc, _+_, _*_}
+use Prim.Native.Nat.{ℕ, _+_, _*_}
+use native.Mathlib.Nat.{pos-of-ne-zero}
 use lib.ListN.{length, take, drop, replicate}
 use Rattle.answers.specs.Number.{numberOf}
 use Rattle.answers.specs.declared.Answer.{Answer}
 use Rattle.answers.specs.declared.Answer.the-variants.{Ok}
 use Rattle.galois.specs.FieldLaws.{FieldLaws}
 use Rattle.linear.specs.Buffer.{holding}
-use Rattle.linear.specs.Choice.{ifZero}
 use Rattle.block.specs.Refusal.{ifOk}
+use Rattle.block.proofs.Chosen.{if-refused as refused-is}
 use Rattle.block.specs.declared.Padding.the-variants.{Data}
 use Rattle.block.specs.Reading.{reading, dataLength}
 use Rattle.decoder.specs.declared.Decoder.{Decoder}
@@ -22,11 +23,7 @@ use Rattle.decoder.specs.Records.{kOf, FOf}
 use Rattle.decoder.specs.Entries.{decoderOf, newRefusal, NewDecoder, takeRefusal, rowsAfter, taking, Decoded, blockIn, recoverRefusal, Recovery}
 
 pub if-refused : {A : Type 0} (a : Answer) (x y : A) → (numberOf a ≡ 0 → ⊥) → y ≡ ifOk a x y
-if-refused a x y = go (numberOf a)
-  where
-    go : (n : ℕ) → (n ≡ 0 → ⊥) → y ≡ ifZero n x y
-    go zero h = absurd (h refl)
-    go (suc n) h = refl
+if-refused a x y n = sym (refused-is a x y (pos-of-ne-zero n))
 
 module _ {L k : ℕ} {elements : List ℕ} where
   pub new-refused : {a : Answer} → newRefusal L k (length elements) ≡ a → (numberOf a ≡ 0 → ⊥) → NewDecoder L k elements (new.Refused a) elements

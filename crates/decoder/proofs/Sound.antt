@@ -1,21 +1,17 @@
 -- What the tests of a record say in numbers: the sizes and counts are within their limits, and so is the matrix.
 -- Assumes nothing.
 use mathlib.Core.Path.{_≡_, refl}
-use mathlib.Core.Bool.{Bool, true, false, _||_, not, true≢false}
+use mathlib.Core.Bool.{Bool, true, false, not}
 use Prim.Native.Nat.{ℕ, _+_, _*_, _≤_, _<_}
 use native.Mathlib.Nat.{mul-le-mul}
 use native.Mathlib.Omega.{arith}
 use lib.Dec.{eqb, leb, ltb}
 use borrow.Author.Tests.{not-true, not-false, eqb-false, leb-true, leb-false, ltb-false, ne-eqb, le-leb, lt-ltb, le-ltb}
+use Rattle.linear.proofs.Choice.{and-true, or-false}
 use Rattle.linear.proofs.Buffer.{row-end}
 use Rattle.block.specs.Sizes.{overLimit, sized}
-use Rattle.decoder_matrix.proofs.Sizes.{both}
 use Rattle.decoder.specs.declared.Decoder.{Decoder}
 use Rattle.decoder.specs.Records.{kOf, LOf, FOf, rowsIn, takenBy, sound, badState}
-
-or-neither : (s t : Bool) → (s || t) ≡ false → (s ≡ false) × (t ≡ false)
-or-neither true t e = absurd (true≢false e)
-or-neither false t e = (refl, e)
 
 pub not-below : (a b : ℕ) → leb a b ≡ not (ltb b a)
 not-below a b = go (leb a b) refl
@@ -28,7 +24,7 @@ module _ (k L : ℕ) where
   pub within : overLimit k L ≡ false → (k ≤ 256) × (L ≤ 4096)
   unfolding overLimit
   within e =
-      let o = or-neither (ltb 256 k) (ltb 4096 L) e in
+      let o = or-false (ltb 256 k) (ltb 4096 L) e in
       (ltb-false _ _ (o .0), ltb-false _ _ (o .1))
 
   pub matrix-small : k ≤ 256 → L ≤ 4096 → k * (k + L) ≤ 1114112
@@ -54,11 +50,11 @@ module _ (d : Decoder) where
   pub told : sound d ≡ true → Sound d
   unfolding sound sized
   told e =
-      let s = both (sized (kOf d) (LOf d)) _ e in
-      let k = both (not (eqb (kOf d) 0)) _ (s .0) in
-      let L = both (not (eqb (LOf d) 0)) _ (k .1) in
-      let r = both (leb (rowsIn d) (kOf d)) _ (s .1) in
-      let t = both (leb (rowsIn d) (takenBy d)) _ (r .1) in
+      let s = and-true (sized (kOf d) (LOf d)) _ e in
+      let k = and-true (not (eqb (kOf d) 0)) _ (s .0) in
+      let L = and-true (not (eqb (LOf d) 0)) _ (k .1) in
+      let r = and-true (leb (rowsIn d) (kOf d)) _ (s .1) in
+      let t = and-true (leb (rowsIn d) (takenBy d)) _ (r .1) in
       let w = within (kOf d) (LOf d) (not-true _ (L .1)) in
       record {
         some-pieces = eqb-false _ _ (not-true _ (k .0));
@@ -86,7 +82,7 @@ module _ (d : Decoder) where
   pub holds : (n : ℕ) → badState d n ≡ false → Holds d n
   unfolding badState
   holds n e =
-      let o = or-neither (not (sound d)) (ltb n (kOf d * FOf d)) e in
+      let o = or-false (not (sound d)) (ltb n (kOf d * FOf d)) e in
       record { numbers = told (not-false (sound d) (o .0)); room = ltb-false _ _ (o .1) }
 
   -- row i lies within the matrix

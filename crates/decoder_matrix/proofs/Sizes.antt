@@ -1,18 +1,15 @@
 -- What the sizes of a matrix that fit say: every row held lies within the buffer lent. The test that asks it is a chain of three.
 -- Assumes nothing.
-use mathlib.Core.Path.{_≡_, refl, sym}
-use mathlib.Core.Bool.{Bool, true, false, _&&_, true≢false}
+use mathlib.Core.Path.{_≡_, refl}
+use mathlib.Core.Bool.{Bool, true, false}
 use Prim.Native.Nat.{ℕ, _*_, _/_, _≤_, _<_}
 use native.Mathlib.Nat.{mul-le-mul-right, le-div-iff-mul-le, div-lt-iff-lt-mul}
 use native.Mathlib.Omega.{arith}
 use lib.Dec.{leb}
+use Rattle.linear.proofs.Choice.{and-true}
 use borrow.Author.Tests.{leb-true, leb-false, le-leb, lt-leb}
 use Rattle.decoder_matrix.specs.declared.DecoderMatrix.{DecoderMatrix}
 use Rattle.decoder_matrix.specs.Matrix.{kOf, sizesFit}
-
-pub both : (s t : Bool) → (s && t) ≡ true → (s ≡ true) × (t ≡ true)
-both true t e = (refl, e)
-both false t e = absurd (true≢false (sym e))
 
 -- the test by a division, where k · c may be no usize
 pub by-division : (k c n : ℕ) → 0 < c → leb k (n / c) ≡ leb (k * c) n
@@ -32,8 +29,8 @@ module _ (m : DecoderMatrix) (n : ℕ) where
   pub sized : sizesFit m n ≡ true → Sized m n
   unfolding sizesFit
   sized e =
-      let a = both (leb (m .rows) (kOf m)) _ e in
-      let b = both (leb (kOf m) (m .cols)) _ (a .1) in
+      let a = and-true (leb (m .rows) (kOf m)) _ e in
+      let b = and-true (leb (kOf m) (m .cols)) _ (a .1) in
       let few : m .rows ≤ kOf m = leb-true (m .rows) (kOf m) (a .0) in
       let room : kOf m * m .cols ≤ n = leb-true (kOf m * m .cols) n (b .1) in
       record { few = few; wide = leb-true (kOf m) (m .cols) (b .0); room = room; held = omega (arith, mul-le-mul-right (m .cols) few) }

@@ -3,49 +3,31 @@
 -- Assumes nothing.
 use mathlib.Core.Path.{_≡_, refl, ap, _∙_}
 use mathlib.Core.Bool.{Bool, true, false}
-use mathlib.Core.Logic.{inl, ⊎-elim}
 use mathlib.Core.List.{List, [], _∷_, _++_}
 use Prim.Native.Nat.{ℕ, _+_, _-_, _*_, _≤_, _<_}
 use native.Mathlib.Nat.{mul-le-mul-right}
 use native.Mathlib.Omega.{arith}
 use lib.Dec.{ltb, eqb}
-use lib.ListN.{length, getD, replicate, length-append}
+use lib.ListN.{length, replicate, length-append}
 use borrow.Author.Tests.{ltb-true, eqb-true, le-leb}
 use Rattle.answers.specs.declared.Answer.{Answer}
 use Rattle.galois.specs.FieldLaws.{FieldLaws}
-use Rattle.linear.specs.All.{All, none, more}
+use Rattle.linear.specs.All.{none, more}
 use Rattle.linear.specs.Choice.{pick}
-use Rattle.linear.specs.Rows.{forward, backward, dropEmpty, reduce, takePiece}
+use Rattle.linear.specs.Rows.{reduce, takePiece}
 use Rattle.linear.specs.Buffer.{rowsOf, putRow, Ruled, flat}
-use Rattle.linear.specs.Engine.{Fits, Empty}
-use Rattle.linear.proofs.All.{all-imp, all-both, all-append}
+use Rattle.linear.proofs.Choice.{and-true}
+use Rattle.linear.proofs.All.{all-append}
 use Rattle.linear.proofs.Buffer.{length-put, row-end, appended, sizes-of, length-rowsOf}
-use Rattle.linear.proofs.Drop.{dropEmpty-cases}
 use Rattle.linear.proofs.Steps.{reduce-le}
-use Rattle.linear.proofs.Subspace.{reduce-in}
-use Rattle.linear.proofs.Linear.{fits-subspace}
 use Rattle.decoder_matrix.specs.declared.DecoderMatrix.{DecoderMatrix}
 use Rattle.decoder_matrix.specs.declared.Matrix.{Matrix}
 use Rattle.decoder_matrix.specs.declared.Matrix.the-variants.{Of, Refused}
 use Rattle.decoder_matrix.specs.Matrix.{kOf, sizesFit, rowsIn, withRows, holding}
 use Rattle.decoder_matrix.specs.Outcomes.{hasRoom, RowAdded, reduced, Reduced}
-use Rattle.decoder_matrix.proofs.Sizes.{both, Sized, sized, fitting}
+use Rattle.decoder_matrix.proofs.Sizes.{Sized, sized, fitting}
 use Rattle.linear.proofs.Flat.{rows-flat, further}
-
--- ---- the rows that the rules leave are as long as those they were given
-
-not-empty : (k : ℕ) (rows : List (List ℕ)) → All (λ r. ¬ Empty k r) (dropEmpty k rows)
-unfolding dropEmpty
-not-empty k [] = none
-not-empty k (r ∷ rs) = dropEmpty-cases (All (λ x. ¬ Empty k x)) k r rs (λ e. not-empty k rs) (λ n. more n (not-empty k rs))
-
-whole : (f k : ℕ) (r : List ℕ) → Fits f r × ¬ Empty k r → length r ≡ f
-whole f k r (fits, n) = ⊎-elim (λ e. e) (λ e. absurd (n (λ c h. ap (λ (l : List ℕ). getD l c 0) e))) fits
-
-sizes-reduced : (𝓕 : FieldLaws) (f k : ℕ) (rows : List (List ℕ)) → All (λ r. length r ≡ f) rows → All (λ r. length r ≡ f) (reduce 𝓕 k rows)
-unfolding reduce
-sizes-reduced 𝓕 f k rows h =
-    all-imp (whole f k) (all-both (reduce-in 𝓕 (fits-subspace 𝓕 f) k rows (all-imp (λ r e. inl e) h)) (not-empty k (backward 𝓕 (length rows) (forward 𝓕 (length rows) rows))))
+use Rattle.linear.proofs.Sizes.{reduce-sizes}
 
 -- ---- a row was added, since a matrix came back
 
@@ -72,7 +54,7 @@ module _ (𝓕 : FieldLaws) {m m₁ : DecoderMatrix} {elements piece e₁ e₂ :
   tests : Told
   tests =
       let t = came-back (hasRoom m (length elements)) (eqb (length piece) (m .cols)) (withRows m (m .rows + 1)) m₁ _ _ (add .answer) in
-      let b = both (sizesFit m (length elements)) (ltb (m .rows) (kOf m)) (t .1) in
+      let b = and-true (sizesFit m (length elements)) (ltb (m .rows) (kOf m)) (t .1) in
       record {
         next = t .0;
         fits = b .0;
@@ -123,7 +105,7 @@ module _ (𝓕 : FieldLaws) {m m₁ : DecoderMatrix} {elements piece e₁ e₂ :
   held =
       ap (rowsOf (m .cols) (length want)) left
       ∙ rows-flat (m .cols) want _
-      (sizes-reduced 𝓕 (m .cols) (kOf m) (rowsIn m elements ++ (piece ∷ [])) (all-append (sizes-of (m .cols) (m .rows) elements (tests .size .held)) (more (tests .long) none)))
+      (reduce-sizes 𝓕 (kOf m) (m .cols) (rowsIn m elements ++ (piece ∷ [])) (all-append (sizes-of (m .cols) (m .rows) elements (tests .size .held)) (more (tests .long) none)))
 
   few : length want ≤ kOf m
   unfolding takePiece

@@ -6,6 +6,7 @@ use mathlib.Core.Logic.{_↔_}
 use mathlib.Core.Bool.{true}
 use mathlib.Core.List.{List, _++_, map}
 use Prim.Native.Nat.{ℕ, _*_, _≤_, _<_}
+use native.Mathlib.Nat.{pos-of-ne-zero}
 use lib.Dec.{eqb}
 use lib.ListN.{length, take, drop}
 use borrow.Author.Tests.{eqb-true, eq-eqb, le-ltb}
@@ -29,7 +30,7 @@ use Rattle.decoder.specs.Records.{kOf, LOf, FOf, rowsIn, sound, badState, heldR
 use Rattle.decoder.specs.Entries.{completed, blockIn, recoverRefusal, Recovery}
 use Rattle.demands.specs.History.{History}
 use Rattle.demands.specs.Demand3.{Demand3, Counters}
-use Rattle.demands.proofs.Good.{is-sound}
+use Rattle.decoder.proofs.Sound.{shown}
 use Rattle.demands.proofs.History.{Kept, kept}
 
 module _ {𝓕 : FieldLaws} {k L : ℕ} {d : Decoder} {elements : List ℕ} {pieces : List (List ℕ)} (h : History 𝓕 k L d elements pieces) where
@@ -37,7 +38,7 @@ module _ {𝓕 : FieldLaws} {k L : ℕ} {d : Decoder} {elements : List ℕ} {pie
   it = kept h
 
   fine : sound d ≡ true
-  fine = is-sound d (it .numbers)
+  fine = shown d (it .numbers)
 
   held-count : length (heldRows d elements) ≡ rowsIn d
   unfolding heldRows
@@ -60,7 +61,7 @@ module _ {𝓕 : FieldLaws} {k L : ℕ} {d : Decoder} {elements : List ℕ} {pie
   module _ (block : List (List ℕ)) (b : Block k L block) (a : Agrees 𝓕 k L pieces block) where
     closes : (completed d ≡ complete.Of true) ↔ Unique 𝓕 k L pieces block
     closes =
-        let long : 0 < L = subst (λ (n : ℕ). 0 < n) (it .same-L) (it .numbers .long) in
+        let long : 0 < L = subst (λ (n : ℕ). 0 < n) (it .same-L) (pos-of-ne-zero (it .numbers .some-bytes)) in
         let iff : (length (heldRows d elements) ≡ k) ↔ Unique 𝓕 k L pieces block = demand-3 𝓕 k L pieces (heldRows d elements) (it .held) block b a long in
         (λ e. iff .0 (complete-rows .0 e), λ u. complete-rows .1 (iff .1 u))
 
@@ -109,4 +110,4 @@ module _ {𝓕 : FieldLaws} {k L : ℕ} {d : Decoder} {elements : List ℕ} {pie
   }
 
   pub counters : Counters k d pieces
-  counters = record { taken = it .taken; few = subst (λ (n : ℕ). rowsIn d ≤ n) (it .same-k) (it .numbers .few); fewer = it .numbers .fewer }
+  counters = record { taken = it .taken; few = subst (λ (n : ℕ). rowsIn d ≤ n) (it .same-k) (it .numbers .rows-pieces); fewer = it .numbers .rows-taken }

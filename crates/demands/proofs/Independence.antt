@@ -6,6 +6,8 @@ use Prim.Native.Nat.{ℕ, zero, suc, _<_}
 use lib.ListN.{length, take}
 use Rattle.answers.specs.Number.{numberOf}
 use Rattle.answers.specs.declared.Answer.{Answer}
+use Rattle.answers.specs.declared.Answer.the-variants.{Ok}
+use Rattle.answers.proofs.Numbers.{numbers-tell}
 use Rattle.galois.specs.FieldLaws.{FieldLaws}
 use Rattle.linear.specs.Choice.{ifZero}
 use Rattle.linear.proofs.Buffer.{length-rowsOf}
@@ -16,7 +18,7 @@ use Rattle.decoder.specs.declared.Taken.{Taken}
 use Rattle.decoder.specs.declared.Taken.the-variants as piece
 use Rattle.decoder.specs.Records.{kOf, FOf, rowsIn, heldRows}
 use Rattle.decoder.specs.Entries.{takeRefusal, rowsAfter, after, taking, Decoded}
-use Rattle.demands.proofs.Good.{Open, take-open}
+use Rattle.decoder.proofs.Accepted.{Accepted, accepted}
 
 module _ (𝓕 : FieldLaws) (d : Decoder) (elements elements′ full full′ : List ℕ)
     (same-rows : map (take (kOf d)) (heldRows d elements) ≡ map (take (kOf d)) (heldRows d elements′))
@@ -36,10 +38,10 @@ module _ (𝓕 : FieldLaws) (d : Decoder) (elements elements′ full full′ : L
       → Decoded 𝓕 d elements full r last → Decoded 𝓕 d elements′ full′ r′ last′ → r ≡ r′
   independent l m {r} {r′} h h′ =
       let same : takeRefusal d (length elements) (length full) ≡ takeRefusal d (length elements′) (length full′) = ap₂ (takeRefusal d) l m in
-      h .result ∙ go (takeRefusal d (length elements) (length full)) (numberOf (takeRefusal d (length elements) (length full))) refl (take-open d (length elements) (length full))
+      h .result ∙ go (takeRefusal d (length elements) (length full)) (numberOf (takeRefusal d (length elements) (length full))) refl (λ z. accepted d (length elements) (length full) (numbers-tell _ Ok .1 z))
       ∙ sym (h′ .result ∙ ap (λ (a : Answer). ifOk a (taking 𝓕 d elements′ full′) (piece.Refused a)) (sym same))
     where
-      go : (a : Answer) (n : ℕ) → numberOf a ≡ n → (numberOf a ≡ 0 → Open d (length elements) (length full))
+      go : (a : Answer) (n : ℕ) → numberOf a ≡ n → (numberOf a ≡ 0 → Accepted d (length elements) (length full))
           → ifZero n (taking 𝓕 d elements full) (piece.Refused a) ≡ ifZero n (taking 𝓕 d elements′ full′) (piece.Refused a)
-      go a zero e o = same-taking (o e .short)
+      go a zero e o = same-taking (o e .missing)
       go a (suc n) e o = refl

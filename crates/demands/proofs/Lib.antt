@@ -1,7 +1,7 @@
-pub mod Good
 pub mod Outcomes
 pub mod History
 pub mod Demand3
 pub mod Independence
+pub mod EndToEnd
 pub mod Witness
 pub mod Worked

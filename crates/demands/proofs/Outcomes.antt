@@ -11,6 +11,8 @@ use lib.Dec.{eqb}
 use lib.ListN.{length, drop, replicate}
 use Rattle.answers.specs.Number.{numberOf}
 use Rattle.answers.specs.declared.Answer.{Answer}
+use Rattle.answers.specs.declared.Answer.the-variants.{Ok}
+use Rattle.answers.proofs.Numbers.{numbers-tell}
 use Rattle.galois.specs.FieldLaws.{FieldLaws}
 use Rattle.linear.specs.Choice.{pick, ifZero}
 use Rattle.linear.specs.Buffer.{holding}
@@ -23,18 +25,18 @@ use Rattle.decoder.specs.Records.{kOf, FOf, rowsIn}
 use Rattle.decoder.specs.Entries.{decoderOf, newRefusal, NewDecoder, takeRefusal, rowsAfter, after, taking, Decoded}
 
 pub made-of : (L k : ℕ) (buffer elements : List ℕ) (d : Decoder) → NewDecoder L k buffer (new.Of d) elements
-    → (numberOf (newRefusal L k (length buffer)) ≡ 0) × (d ≡ decoderOf k L 0 0) × (elements ≡ replicate (k * (k + L)) 0 ++ drop (k * (k + L)) buffer)
-made-of L k buffer elements d n = go (newRefusal L k (length buffer)) (numberOf (newRefusal L k (length buffer))) refl (n .result) (n .left)
+    → (d ≡ decoderOf k L 0 0) × (elements ≡ replicate (k * (k + L)) 0 ++ drop (k * (k + L)) buffer)
+made-of L k buffer elements d n = go (newRefusal L k (length buffer)) (numberOf (newRefusal L k (length buffer))) (n .result) (n .left)
   where
-    go : (a : Answer) (m : ℕ) → numberOf a ≡ m → new.Of d ≡ ifZero m (new.Of (decoderOf k L 0 0)) (new.Refused a)
+    go : (a : Answer) (m : ℕ) → new.Of d ≡ ifZero m (new.Of (decoderOf k L 0 0)) (new.Refused a)
         → elements ≡ ifZero m (replicate (k * (k + L)) 0 ++ drop (k * (k + L)) buffer) buffer
-        → (numberOf a ≡ 0) × (d ≡ decoderOf k L 0 0) × (elements ≡ replicate (k * (k + L)) 0 ++ drop (k * (k + L)) buffer)
-    go a zero e p q = (e, (cc), q)
-    go a (suc m) e p q = let z : _≡_ {A = ℕ} 0 1 = cc in absurd (omega arith)
+        → (d ≡ decoderOf k L 0 0) × (elements ≡ replicate (k * (k + L)) 0 ++ drop (k * (k + L)) buffer)
+    go a zero p q = ((cc), q)
+    go a (suc m) p q = let z : _≡_ {A = ℕ} 0 1 = cc in absurd (omega arith)
 
 -- the piece was taken
 pub record Took (𝓕 : FieldLaws) (d : Decoder) (elements full : List ℕ) (d′ : Decoder) (elements′ : List ℕ) : Type 0 where
-  pub let-in : numberOf (takeRefusal d (length elements) (length full)) ≡ 0
+  pub let-in : takeRefusal d (length elements) (length full) ≡ Ok
   pub record-is : d′ ≡ after 𝓕 d elements full
   pub buffer-is : elements′ ≡ holding (kOf d) (FOf d) (rowsAfter 𝓕 d elements full) elements
 
@@ -60,7 +62,7 @@ module _ (𝓕 : FieldLaws) (d : Decoder) (elements full : List ℕ) (r : Taken)
 
       go : (m : ℕ) → numberOf refusal ≡ m → r ≡ ifZero m (taking 𝓕 d elements full) (piece.Refused refusal) → elements′ ≡ ifZero m rows-left elements
           → (r ≡ piece.Useful d′) ⊎ (r ≡ piece.NotUseful d′) → Took 𝓕 d elements full d′ elements′
-      go zero e p q w = record { let-in = e; record-is = which (eqb (length (rowsAfter 𝓕 d elements full)) (rowsIn d)) p w; buffer-is = q }
+      go zero e p q w = record { let-in = numbers-tell refusal Ok .1 e; record-is = which (eqb (length (rowsAfter 𝓕 d elements full)) (rowsIn d)) p w; buffer-is = q }
       go (suc m) e p q (inl u) = let z : _≡_ {A = ℕ} 0 1 = cc in absurd (omega arith)
       go (suc m) e p q (inr u) = let z : _≡_ {A = ℕ} 0 1 = cc in absurd (omega arith)
 

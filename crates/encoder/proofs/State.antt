@@ -5,7 +5,8 @@ use mathlib.Core.Bool.{false, not}
 use Prim.Native.Nat.{ℕ, _*_, _≤_}
 use borrow.Author.Tests.{ltb-false, not-false}
 use Rattle.block.specs.Sizes.{sized}
-use Rattle.block.proofs.Bounds.{Within, within, or-false}
+use Rattle.linear.proofs.Choice.{or-false}
+use Rattle.block.proofs.Bounds.{Within, within}
 use Rattle.encoder.specs.declared.Encoder.{Encoder}
 use Rattle.encoder.specs.Entries.{badState}
 

@@ -1,7 +1,7 @@
 -- What follows from the laws of any field on the bytes: zero's products, one inverse for each nonzero byte, no zero divisors, and what row
 -- reduction asks for.
 -- Assumes nothing.
-use mathlib.Core.Path.{_≡_, sym, ap, ap₂, _∙_, subst}
+use mathlib.Core.Path.{_≡_, sym, ap, ap₂, _∙_}
 use mathlib.Core.Logic.{_⊎_, inl, inr}
 use Prim.Native.Nat.{ℕ, _<_}
 use native.Mathlib.Nat.{eq-zero-or-pos}

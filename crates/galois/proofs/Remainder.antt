@@ -4,12 +4,12 @@
 use mathlib.Core.Path.{_≡_, refl, sym, ap, ap₂, _∙_, subst}
 use mathlib.Core.Logic.{_⊎_, inl, inr, _↔_}
 use Prim.Native.Nat.{ℕ, zero, suc, _+_, _*_, _/_, _%_, _^_, _≤_, _<_}
-use native.Mathlib.Nat.{mod-lt, mod-eq-of-lt, div-eq-of-lt, zero-mul, one-mul, eq-zero-or-pos, div-lt-iff-lt-mul, zero-lt-suc, pow-suc, add-comm, add-suc, suc-add, zero-add}
+use native.Mathlib.Nat.{mod-lt, mod-eq-of-lt, div-eq-of-lt, zero-mul, one-mul, eq-zero-or-pos, div-lt-iff-lt-mul, zero-lt-suc, pow-suc, add-comm, suc-add}
 use native.Mathlib.Omega.{arith}
 use lib.Arith.{digits-div, digits-mod, digits-lt}
 use lib.Pow.{pow-mono}
 use Rattle.galois.specs.Gf.{_⊕_, xtime, times, mul, product, Remainder}
-use Rattle.galois.proofs.Sum.{⊕-assoc, ⊕-comm, ⊕-self, ⊕-zero, zero-⊕, ⊕-lt, ⊕-byte, ⊕-shr, ⊕-mod, ⊕-shl, ⊕-above, ⊕-middle, ⊕-left-comm, ⊕-equal, ⊕-digit, digit, digit-⊕, digit-lt}
+use Rattle.galois.proofs.Sum.{⊕-assoc, ⊕-comm, ⊕-self, ⊕-zero, ⊕-lt, ⊕-byte, ⊕-shr, ⊕-mod, ⊕-shl, ⊕-above, ⊕-middle, ⊕-left-comm, ⊕-equal, ⊕-digit, digit, digit-⊕, digit-lt}
 use Rattle.galois.proofs.Mul.{times-none, times-suc, times-lt, mul-lt, mul-times}
 
 product-none : (a b : ℕ) → product 0 a b ≡ 0

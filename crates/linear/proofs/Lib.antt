@@ -1,3 +1,4 @@
+pub mod Choice
 pub mod All
 pub mod Buffer
 pub mod Sums

@@ -1,7 +1,7 @@
 -- Rows of one width stay of that width under the rules: a step makes rows as long as those it is given, or none, and no row that is none is
 -- kept.
 -- Assumes nothing.
-use mathlib.Core.Path.{_≡_, refl, ap}
+use mathlib.Core.Path.{_≡_, ap}
 use mathlib.Core.Logic.{inl, inr}
 use mathlib.Core.List.{List, [], _∷_, _++_}
 use Prim.Native.Nat.{ℕ}

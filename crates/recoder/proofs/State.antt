@@ -7,7 +7,8 @@ use native.Mathlib.Nat.{mul-le-mul}
 use native.Mathlib.Omega.{arith}
 use lib.Dec.{eqb, leb, ltb}
 use borrow.Author.Tests.{ltb-false, leb-false, eqb-false, not-true, not-false}
-use Rattle.block.proofs.Bounds.{Within, within, or-false, and-true}
+use Rattle.linear.proofs.Choice.{and-true, or-false}
+use Rattle.block.proofs.Bounds.{Within, within}
 use Rattle.recoder.specs.declared.Recoder.{Recoder}
 use Rattle.recoder.specs.Entries.{sound, badState}
 

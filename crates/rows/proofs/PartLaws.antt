@@ -2,7 +2,7 @@
 -- old bytes before and behind it.
 -- Assumes nothing.
 use mathlib.Core.Path.{_≡_, refl, sym, ap, _∙_, subst}
-use mathlib.Core.Bool.{Bool, true, false, _&&_, _||_, false≢true}
+use mathlib.Core.Bool.{Bool, true, false, _||_}
 use mathlib.Core.Logic.{_⊎_, inl, inr, ⊎-elim}
 use mathlib.Core.List.{List, [], _∷_, _++_}
 use Prim.Native.Nat.{ℕ, zero, suc, _+_, _-_, _≤_, _<_}
@@ -13,6 +13,7 @@ use lib.ListN.{length, getD, take, drop, set, List·getD-append, length-append, 
 use lib.Seq.{take-at, drop-at, drop-drop, length-take-le, getD-take, getD-drop}
 use borrow.Author.Tests.{leb-true, le-leb}
 use Rattle.galois.specs.FieldLaws.{FieldLaws}
+use Rattle.linear.proofs.Choice.{and-true}
 use Rattle.rows.specs.declared.Parts.{Parts}
 use Rattle.rows.specs.Parts.{partAt, putPart, lieApart}
 use Rattle.rows.specs.Outcomes.{summedPart, addedPart}
@@ -20,10 +21,6 @@ use Rattle.rows.proofs.RowLaws.{added-zero, added-one}
 use Rattle.rows.proofs.Turned.{Turned, starts, finds, keeps, turns, ends}
 
 -- ---- when two parts lie apart
-
-and-true : (s t : Bool) → (s && t) ≡ true → (s ≡ true) × (t ≡ true)
-and-true true t e = (refl, e)
-and-true false t e = absurd (false≢true e)
 
 or-true : (s t : Bool) → (s || t) ≡ true → (s ≡ true) ⊎ (t ≡ true)
 or-true true t e = inl refl
