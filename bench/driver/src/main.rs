@@ -1,12 +1,13 @@
-//! Measures the row helpers: the Rust's portable loops and the proved code, in one run, turn by turn, after a check that both give the
-//! same bytes. `bench/run` builds and starts it.
+//! Measures the row helpers, then the work on whole pieces: the Rust's portable loops and the proved code, in one run, turn by turn, after
+//! a check that both give the same bytes. `bench/run` builds and starts it; `bench/run pieces` leaves the row helpers out.
 mod ours;
+mod pieces;
 
 use rlnc::common::simd;
 use std::hint::black_box;
 use std::time::Instant;
 
-// The bytes of xorshift64, so that each run sees the same rows.
+// The bytes of xorshift64*, so that each run sees the same rows. (Without the product all vectors would be sums of 64.)
 struct Bytes(u64);
 
 impl Bytes {
@@ -14,7 +15,7 @@ impl Bytes {
         self.0 ^= self.0 << 13;
         self.0 ^= self.0 >> 7;
         self.0 ^= self.0 << 17;
-        (self.0 >> 32) as u8
+        (self.0.wrapping_mul(0x2545f4914f6cdd1d) >> 56) as u8
     }
 
     fn row(&mut self, len: usize) -> Vec<u8> {
@@ -118,6 +119,13 @@ fn measure(work: &Work, len: usize, factors: &[u8]) -> (f64, f64) {
 }
 
 fn main() {
+    if std::env::args().nth(1).as_deref() != Some("pieces") {
+        rows();
+    }
+    pieces::run();
+}
+
+fn rows() {
     println!("the same bytes in {} cases", compare());
     let mut bytes = Bytes(0xd1342543de82ef95);
     let many: Vec<u8> = (0..251).map(|_| bytes.next() % 254 + 2).collect();

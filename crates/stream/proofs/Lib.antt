@@ -1,0 +1,3 @@
+pub mod OneResult
+pub mod Streams
+pub mod Examples

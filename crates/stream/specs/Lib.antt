@@ -1,0 +1,4 @@
+pub mod Geometries
+pub mod Records
+pub mod Streams
+pub mod Examples
