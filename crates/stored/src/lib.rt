@@ -5,7 +5,6 @@ ghost use mathlib.Core.Bool.{false};
 ghost use mathlib.Core.List.{_++_};
 ghost use Prim.Native.Nat.{_-_, _≤_};
 ghost use lib.ListN.{length, take, drop, replicate};
-ghost use Rattle.linear.specs.Rows.{allZero};
 ghost use Rattle.stream.specs.Geometries.{piecesOf, lengthOf};
 ghost use Rattle.decoder.specs.Records.{kOf, LOf, sound, badState};
 ghost use Rattle.stored.specs.Forms.{storedKind, matrixSize, formSize, storedGeometry, sizeGeometry, formOf, formTaken, formDecoder};
@@ -117,36 +116,13 @@ fn is_bad(d: Decoder, room: usize) -> bool
     room < k * (k + d.piece_byte_len)
 }
 
-fn clear(part: &mut [u8])
-    ensures { λ _. ⌜ now (part .exit) ≡ replicate (length (now (part .entry))) 0 ⌝ }
-{
-    let mut i = 0;
-    while i < part.len() {
-        part[i] = 0;
-        i += 1;
-    }
-}
-
-fn is_zero(part: &[u8]) -> bool
-    ensures { λ r. ⌜ r ≡ allZero (now (part .entry)) ⌝ }
-{
-    let mut i = 0;
-    while i < part.len() {
-        if part[i] != 0 {
-            return false;
-        }
-        i += 1;
-    }
-    true
-}
-
 // The held bytes of a matrix, then zeros.
 fn put_matrix(elements: &[u8], held: usize, part: &mut [u8])
     requires { ⌜ (held ≤ length (now elements)) × (held ≤ length (now part)) ⌝ }
     ensures { λ _. ⌜ now (part .exit) ≡ take held (now (elements .entry)) ++ replicate (length (now (part .entry)) - held) 0 ⌝ }
 {
     bytes::copy(&elements[..held], part);
-    clear(&mut part[held..]);
+    rows::clear(&mut part[held..]);
 }
 
 // The form of a decoder of this geometry, at the front of `out`.
@@ -206,7 +182,7 @@ fn is_bad_form(g: Geometry, form: &[u8]) -> bool
     }
     let a = 4 + rows * g.body_len();
     let e = form_len(g);
-    !is_zero(&form[a..e])
+    !rows::is_zero(&form[a..e])
 }
 
 // The record in a form.
