@@ -56,7 +56,7 @@ loop-again c =
 move-row-requires : tie.Need-move-row-requires Inv-loop μ-loop
 move-row-requires c κs =
     let l = c .before .before .before .before .before .before .loop in
-    (ap (sizesFit (c .before .before .before .before .before .before .before .before .args .self)) (l .inv .1) ∙ c .before .before .before .before .before .before .before .before .pre, (l .inv .2 .few, omega arith))
+    (ap (sizesFit (c .before .before .before .before .before .before .before .before .args .self)) (l .inv .1) ∙ c .before .before .before .before .before .before .before .before .pre, (omega (arith, l .inv .2 .few), omega arith))
 
 loop-again-2 : tie.Need-loop-again-2 Inv-loop μ-loop
 loop-again-2 c =
