@@ -2,11 +2,11 @@
 -- Assumes nothing.
 use mathlib.Core.Path.{_≡_, refl, sym, ap, _∙_}
 use mathlib.Core.Logic.{_≢_}
-use mathlib.Core.Bool.{Bool, true, false, _&&_, false≢true}
+use mathlib.Core.Bool.{true, false, _&&_, false≢true}
 use mathlib.Core.List.{List, [], _∷_, _++_}
 use mathlib.Core.Option.{Option, none, some}
 use Prim.Native.Nat.{ℕ, zero, suc, _+_, _<_}
-use native.Mathlib.Nat.{not-suc-le-zero, le-of-suc-le-suc, zero-add, add-zero, suc-add}
+use native.Mathlib.Nat.{not-suc-le-zero, le-of-suc-le-suc, zero-add, suc-add}
 use native.Mathlib.Decide.{ℕ-discrete, decLt}
 use native.Mathlib.Omega.{arith}
 use lib.Dec.{eqb}
@@ -14,7 +14,6 @@ use lib.ListN.{length, getD, replicate}
 use borrow.Author.Tests.{eq-eqb, ne-eqb}
 use Rattle.linear.specs.Choice.{pick}
 use Rattle.linear.specs.Rows.{allZero}
-use Rattle.linear.proofs.All.{zeros-entry}
 use Rattle.block.specs.Padding.{LastMarker}
 use Rattle.block.specs.Reading.{later, lastMarker}
 
@@ -93,21 +92,9 @@ last-append M (x ∷ xs) ys = ap (later (pick (eqb x M) (some 0) none)) (last-ap
     go a none = refl
     go a (some i) = ap some (sym (suc-add (length xs) i))
 
--- one element more at the end
-pub last-snoc : (M : ℕ) (xs : List ℕ) (x : ℕ) → lastMarker M (xs ++ (x ∷ [])) ≡ pick (eqb x M) (some (length xs)) (lastMarker M xs)
-unfolding lastMarker
-last-snoc M xs x = last-append M xs (x ∷ []) ∙ go (eqb x M)
-  where
-    go : (t : Bool) → behind (length xs) (lastMarker M xs) (pick t (some 0) none) ≡ pick t (some (length xs)) (lastMarker M xs)
-    go true = ap some (add-zero (length xs))
-    go false = refl
-
 -- a second part with no marker, as zeros are
 pub last-front : (M : ℕ) (xs ys : List ℕ) → lastMarker M ys ≡ none → lastMarker M (xs ++ ys) ≡ lastMarker M xs
 last-front M xs ys e = last-append M xs ys ∙ ap (behind (length xs) (lastMarker M xs)) e
-
-pub last-zeros : {M : ℕ} → M ≢ 0 → (n : ℕ) → lastMarker M (replicate n 0) ≡ none
-last-zeros d n = last-nowhere (replicate n 0) (λ i h e. d (sym e ∙ zeros-entry n i))
 
 -- ---- the test for zeros
 

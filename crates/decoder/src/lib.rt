@@ -108,7 +108,7 @@ impl Decoder {
     }
 
     // They are, and k rows fit into n bytes.
-    fn holds(self, n: usize) -> bool
+    pub fn holds(self, n: usize) -> bool
         ensures { λ r. ⌜ r ≡ not (badState self n) ⌝ }
     {
         if !self.is_sound() {

@@ -46,7 +46,6 @@ module _ (𝓕 : FieldLaws) {m m₁ : DecoderMatrix} {elements piece e₁ e₂ :
   -- what the answer says of the tests
   record Told : Type 0 where
     next : m₁ ≡ withRows m (m .rows + 1)
-    fits : sizesFit m (length elements) ≡ true
     size : Sized m (length elements)
     room : m .rows < kOf m
     long : length piece ≡ m .cols
@@ -57,7 +56,6 @@ module _ (𝓕 : FieldLaws) {m m₁ : DecoderMatrix} {elements piece e₁ e₂ :
       let b = and-true (sizesFit m (length elements)) (ltb (m .rows) (kOf m)) (t .1) in
       record {
         next = t .0;
-        fits = b .0;
         size = sized m (length elements) (b .0);
         room = ltb-true (m .rows) (kOf m) (b .1);
         long = eqb-true (length piece) (m .cols) (t .2);

@@ -32,6 +32,7 @@ use Rattle.decoder.specs.declared.Taken.the-variants as piece
 use Rattle.decoder.specs.declared.Recovered.{Recovered}
 use Rattle.decoder.specs.declared.Recovered.the-variants as recovered
 use Rattle.decoder.specs.Records.{kOf, LOf, FOf, rowsIn, takenBy, sound, badState, heldRows}
+use Rattle.decoder.proofs.Sound.{Holds, holds}
 use Rattle.decoder.specs.Entries.{decoderOf, takeRefusal, rowsAfter, after, taking, Decoded, blockIn, recoverRefusal, Recovery}
 use Rattle.stored.specs.declared.Listed.{Listed}
 use Rattle.stored.specs.declared.Listed.the-variants as listed
@@ -42,7 +43,6 @@ use Rattle.stored.specs.declared.Loaded.the-variants as loaded
 use Rattle.stored.specs.Forms.{storedKind, matrixSize, sizeGeometry, formOf}
 use Rattle.stored.specs.Entries.{sizeRefusal, saveRefusal, savedForm, Saving, Loading}
 use Rattle.stored.specs.Alike.{Alike, next}
-use Rattle.stored.proofs.Numbers.{Good, not-bad}
 use Rattle.stored.proofs.Outcomes.{was-saved}
 use Rattle.stored.proofs.RoundTrip.{loads-back, same-rows}
 
@@ -53,18 +53,18 @@ long-enough k f rows buffer w =
     let covers : k * f ≤ (n + (k - n)) * f = mul-le-mul-right f (omega arith) in
     simp (length-append, length-replicate, length-drop, length-flat f rows w) (omega (arith, covers, add-mul n (k - n) f))
 
-held-widths : (d : Decoder) (a : List ℕ) → Good d → kOf d * FOf d ≤ length a → All (λ r. length r ≡ FOf d) (heldRows d a)
+held-widths : (d : Decoder) (a : List ℕ) → Holds d (length a) → All (λ r. length r ≡ FOf d) (heldRows d a)
 unfolding heldRows
-held-widths d a n room = sizes-of (FOf d) (rowsIn d) a (omega (arith, room, mul-le-mul-right (FOf d) (n .few)))
+held-widths d a h = sizes-of (FOf d) (rowsIn d) a (omega (arith, h .room, mul-le-mul-right (FOf d) (h .numbers .rows-pieces)))
 
 -- what a piece that is taken tells
-let-in : (d : Decoder) (room size : ℕ) → numberOf (takeRefusal d room size) ≡ 0 → Good d × (size ≡ FOf d)
+let-in : (d : Decoder) (room size : ℕ) → numberOf (takeRefusal d room size) ≡ 0 → Holds d room × (size ≡ FOf d)
 unfolding takeRefusal
 let-in d room size e =
     let (a, e₁) = passes (badState d room) BadState _ (omega arith) (numbers-tell _ Ok .1 e) in
     let (b, e₂) = passes (eqb (rowsIn d) (kOf d)) ReceivedAllPieces _ (omega arith) e₁ in
     let (s, e₃) = passes (not (eqb size (FOf d))) InvalidPieceLength _ (omega arith) e₂ in
-    (not-bad d room a .0, eqb-true size (FOf d) (not-false (eqb size (FOf d)) s))
+    (holds d room a, eqb-true size (FOf d) (not-false (eqb size (FOf d)) s))
 
 not-yet {ℓ} : {A : Type ℓ} (t : Bool) (x y : A) → ifOk (pick t BadState NotAllPiecesReceivedYet) x y ≡ y
 not-yet true x y = refl
@@ -127,7 +127,7 @@ module _ (d : Decoder) (a b : List ℕ) (h : Alike d a b) where
     after-alike e =
         let (n, whole) = let-in d (length a) (length full) e in
         let w : All (λ r. length r ≡ FOf d) (rowsAfter 𝓕 d a full) =
-        takePiece-sizes 𝓕 (kOf d) (FOf d) (heldRows d a) full (held-widths d a n (h .here)) whole in
+        takePiece-sizes 𝓕 (kOf d) (FOf d) (heldRows d a) full (held-widths d a n) whole in
         let w′ : All (λ r. length r ≡ FOf d) (rowsAfter 𝓕 d b full) = subst (All (λ r. length r ≡ FOf d)) same-after w in
         record {
           here = long-enough (kOf d) (FOf d) (rowsAfter 𝓕 d a full) a w;
@@ -215,12 +215,12 @@ pub loaded-alike : {d : Decoder} {elements out out′ : List ℕ} {n : ℕ} → 
     → (r ≡ loaded.Of d) × Alike d elements matrix′
 loaded-alike {d} {elements} {out} {out′} {n} s behind matrix matrix′ r room l =
     let (e, m) = loads-back s behind matrix matrix′ r room l in
-    let (good, lent) = not-bad d (length elements) (was-saved d elements out n out′ s .fine) in (
+    let h = holds d (length elements) (was-saved d elements out n out′ s .fine) in (
       e,
       subst (Alike d elements) (sym m)
           (record {
-            here = lent;
-            there = long-enough (kOf d) (FOf d) (heldRows d elements) matrix (held-widths d elements good lent);
+            here = h .room;
+            there = long-enough (kOf d) (FOf d) (heldRows d elements) matrix (held-widths d elements h);
             rows = sym (same-rows s matrix);
           }),
     )

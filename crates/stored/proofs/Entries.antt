@@ -13,13 +13,13 @@ use Rattle.answers.specs.declared.Answer.the-variants.{NoRoom, BadState, Unknow
 use Rattle.stream.specs.declared.Geometry.{Geometry}
 use Rattle.decoder.specs.declared.Decoder.{Decoder}
 use Rattle.decoder.specs.Records.{kOf, LOf, badState}
+use Rattle.decoder.proofs.Sound.{holds}
 use Rattle.stored.specs.declared.Listed.{Listed}
 use Rattle.stored.specs.declared.Listed.the-variants as listed
 use Rattle.stored.specs.declared.Saved.the-variants as saved
 use Rattle.stored.specs.declared.Loaded.the-variants as loaded
 use Rattle.stored.specs.Forms.{matrixSize, formSize, storedGeometry, sizeGeometry, formOf, formMatrix, formDecoder}
 use Rattle.stored.specs.Entries.{sizeRefusal, saveRefusal, savedForm, Saving, badForm, formRefusal, loadRefusal, geometryIn, loadResult, loadMatrix, Loading}
-use Rattle.stored.proofs.Numbers.{not-bad}
 use Rattle.stored.proofs.Forms.{sizes-are, length-form}
 
 -- ---- saving
@@ -43,9 +43,9 @@ module _ (d : Decoder) (elements out : List ℕ) where
 
       size : length (formOf g d elements) ≡ formSize g
       size =
-          let (n, room) = not-bad d (length elements) b in
+          let h = holds d (length elements) b in
           let (k-is, L-is) = sizes-are (kOf d) (LOf d) g s in
-          length-form g d elements k-is L-is (n .few) room
+          length-form g d elements k-is L-is (h .numbers .rows-pieces) (h .room)
 
       pub saves : {last : List ℕ} → formSize g ≤ length out → last ≡ formOf g d elements ++ drop (formSize g) out
           → Saving d elements out (saved.Bytes (formSize g)) last

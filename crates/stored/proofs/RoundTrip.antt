@@ -32,7 +32,8 @@ use Rattle.stored.specs.declared.Loaded.{Loaded}
 use Rattle.stored.specs.declared.Loaded.the-variants as loaded
 use Rattle.stored.specs.Forms.{storedKind, matrixSize, formSize, storedGeometry, formOf, formRows, formTaken, formMatrix, formDecoder}
 use Rattle.stored.specs.Entries.{Saving, badForm, Loading}
-use Rattle.stored.proofs.Numbers.{Good, not-bad, inside}
+use Rattle.decoder.proofs.Sound.{Holds, holds}
+use Rattle.stored.proofs.Numbers.{inside}
 use Rattle.stored.proofs.Forms.{kind-is, kind-of, sizes-are, sizes-of, whole-matrix, held-bytes, held-room, length-matrix, length-form}
 use Rattle.stored.proofs.Entries.{saves, loads}
 use Rattle.stored.proofs.OneResult.{saved-once, loaded-once}
@@ -66,7 +67,7 @@ form-facts g form e =
 -- ---- what is saved
 
 module _ (g : Geometry) (d : Decoder) (elements behind : List ℕ) (k-is : kOf d ≡ piecesOf g) (L-is : LOf d ≡ lengthOf g)
-    (n : Good d) (room : kOf d * FOf d ≤ length elements) where
+    (h : Holds d (length elements)) where
   abbrev form : List ℕ
   form = formOf g d elements ++ behind
 
@@ -79,7 +80,7 @@ module _ (g : Geometry) (d : Decoder) (elements behind : List ℕ) (k-is : kOf d
 
   matrix-is : formMatrix g form ≡ flat (heldRows d elements) ++ rest
   unfolding formMatrix formOf
-  matrix-is = take-at (flat (heldRows d elements) ++ rest) behind (matrixSize g) (length-matrix g d elements k-is L-is (n .few) room)
+  matrix-is = take-at (flat (heldRows d elements) ++ rest) behind (matrixSize g) (length-matrix g d elements k-is L-is (h .numbers .rows-pieces) (h .room))
 
   taken-is : formTaken form ≡ takenBy d
   unfolding formTaken formOf
@@ -91,17 +92,17 @@ module _ (g : Geometry) (d : Decoder) (elements behind : List ℕ) (k-is : kOf d
 
   held-long : length (flat (heldRows d elements)) ≡ rowsIn d * bodyOf g
   held-long =
-      ap length (held-bytes g d elements k-is L-is) ∙ length-take-le (rowsIn d * bodyOf g) elements (held-room g d elements k-is L-is (n .few) room)
+      ap length (held-bytes g d elements k-is L-is) ∙ length-take-le (rowsIn d * bodyOf g) elements (held-room g d elements k-is L-is (h .numbers .rows-pieces) (h .room))
 
   fine : badForm g form ≡ false
   unfolding formRows formOf
   fine =
-      fine-form g form (subst (λ (k : ℕ). rowsIn d ≤ k) k-is (n .few)) (subst (λ (k : ℕ). rowsIn d ≤ k) (sym taken-is) (n .fewer))
+      fine-form g form (subst (λ (k : ℕ). rowsIn d ≤ k) k-is (h .numbers .rows-pieces)) (subst (λ (k : ℕ). rowsIn d ≤ k) (sym taken-is) (h .numbers .rows-taken))
       (ap (λ (l : List ℕ). allZero (drop (rowsIn d * bodyOf g) l)) matrix-is
       ∙ ap allZero (drop-at (flat (heldRows d elements)) rest (rowsIn d * bodyOf g) held-long) ∙ zeros-zero (matrixSize g - rowsIn d * bodyOf g))
 
   whole : formSize g ≤ length form
-  whole = simp length-append (omega (arith, length-form g d elements k-is L-is (n .few) room))
+  whole = simp length-append (omega (arith, length-form g d elements k-is L-is (h .numbers .rows-pieces) (h .room)))
 
   held-count : length (heldRows d elements) ≡ rowsIn d
   unfolding heldRows
@@ -120,13 +121,13 @@ module _ (g : Geometry) (d : Decoder) (elements behind : List ℕ) (k-is : kOf d
   front matrix =
       (λ i. take (whole-matrix g d elements k-is L-is i) (sym (filled matrix) i))
       ∙ take-at (formMatrix g form) (drop (matrixSize g) matrix) (matrixSize g)
-      (ap length matrix-is ∙ length-matrix g d elements k-is L-is (n .few) room)
+      (ap length matrix-is ∙ length-matrix g d elements k-is L-is (h .numbers .rows-pieces) (h .room))
 
   held-again : (matrix : List ℕ) → heldRows d (holding (kOf d) (FOf d) (heldRows d elements) matrix) ≡ heldRows d elements
   unfolding heldRows
   held-again matrix =
       ap (λ (c : ℕ). rowsOf (FOf d) c (holding (kOf d) (FOf d) (heldRows d elements) matrix)) (sym held-count)
-      ∙ rows-flat (FOf d) (heldRows d elements) _ (widths-of (FOf d) (rowsIn d) elements (omega (arith, room, mul-le-mul-right (FOf d) (n .few))))
+      ∙ rows-flat (FOf d) (heldRows d elements) _ (widths-of (FOf d) (rowsIn d) elements (omega (arith, h .room, mul-le-mul-right (FOf d) (h .numbers .rows-pieces))))
 
 module _ {d : Decoder} {elements out out′ : List ℕ} {n : ℕ} (s : Saving d elements out (saved.Bytes n) out′) where
   it : WasSaved d elements out n out′
@@ -138,33 +139,33 @@ module _ {d : Decoder} {elements out out′ : List ℕ} {n : ℕ} (s : Saving d 
   loads-back behind matrix matrix′ r room l =
       let g : Geometry = it .geometry in
       let (k-is, L-is) = sizes-are (kOf d) (LOf d) g (it .sizes) in
-      let (good, lent) = not-bad d (length elements) (it .fine) in
+      let h = holds d (length elements) (it .fine) in
       let written : take n out′ ≡ formOf g d elements =
       (λ i. take (it .count i) (it .left i))
-      ∙ take-at (formOf g d elements) (drop (formSize g) out) (formSize g) (length-form g d elements k-is L-is (good .few) lent) in
+      ∙ take-at (formOf g d elements) (drop (formSize g) out) (formSize g) (length-form g d elements k-is L-is (h .numbers .rows-pieces) (h .room)) in
       let l′ : Loading (formOf g d elements ++ behind) matrix r matrix′ = subst (λ (f : List ℕ). Loading (f ++ behind) matrix r matrix′) written l in
-      let w : formSize g ≤ length (formOf g d elements ++ behind) = whole g d elements behind k-is L-is good lent in
+      let w : formSize g ≤ length (formOf g d elements ++ behind) = whole g d elements behind k-is L-is h in
       let fits : matrixSize g ≤ length matrix = subst (λ (m : ℕ). m ≤ length matrix) (whole-matrix g d elements k-is L-is) room in
       let (e, m) =
       loaded-once l′
-      (loads matrix (formOf g d elements ++ behind) (λ z. omega (arith, z, w)) g (kind g d elements behind k-is L-is good lent) w fits
-      (fine g d elements behind k-is L-is good lent) refl) in
-      (e ∙ ap loaded.Of (decoder-is g d elements behind k-is L-is good lent), m ∙ filled g d elements behind k-is L-is good lent matrix)
+      (loads matrix (formOf g d elements ++ behind) (λ z. omega (arith, z, w)) g (kind g d elements behind k-is L-is h) w fits
+      (fine g d elements behind k-is L-is h) refl) in
+      (e ∙ ap loaded.Of (decoder-is g d elements behind k-is L-is h), m ∙ filled g d elements behind k-is L-is h matrix)
 
   -- so the loaded decoder goes on where the saved one was: the same held rows, and as much of the matrix as a decoder reads is as if the dropped
   -- rows' area of the saved one had been cleared
   pub same-rows : (matrix : List ℕ) → heldRows d (holding (kOf d) (FOf d) (heldRows d elements) matrix) ≡ heldRows d elements
   same-rows matrix =
       let (k-is, L-is) = sizes-are (kOf d) (LOf d) (it .geometry) (it .sizes) in
-      let (good, lent) = not-bad d (length elements) (it .fine) in
-      held-again (it .geometry) d elements [] k-is L-is good lent matrix
+      let h = holds d (length elements) (it .fine) in
+      held-again (it .geometry) d elements [] k-is L-is h matrix
 
   pub same-front : (matrix : List ℕ)
       → take (kOf d * FOf d) (holding (kOf d) (FOf d) (heldRows d elements) matrix) ≡ take (kOf d * FOf d) (holding (kOf d) (FOf d) (heldRows d elements) elements)
   same-front matrix =
       let (k-is, L-is) = sizes-are (kOf d) (LOf d) (it .geometry) (it .sizes) in
-      let (good, lent) = not-bad d (length elements) (it .fine) in
-      front (it .geometry) d elements [] k-is L-is good lent matrix ∙ sym (front (it .geometry) d elements [] k-is L-is good lent elements)
+      let h = holds d (length elements) (it .fine) in
+      front (it .geometry) d elements [] k-is L-is h matrix ∙ sym (front (it .geometry) d elements [] k-is L-is h elements)
 
 -- ---- what loads
 

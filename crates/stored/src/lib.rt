@@ -6,7 +6,7 @@ ghost use mathlib.Core.List.{_++_};
 ghost use Prim.Native.Nat.{_-_, _≤_};
 ghost use lib.ListN.{length, take, drop, replicate};
 ghost use Rattle.stream.specs.Geometries.{piecesOf, lengthOf};
-ghost use Rattle.decoder.specs.Records.{kOf, LOf, sound, badState};
+ghost use Rattle.decoder.specs.Records.{kOf, LOf, badState};
 ghost use Rattle.stored.specs.Forms.{storedKind, matrixSize, formSize, storedGeometry, sizeGeometry, formOf, formTaken, formDecoder};
 ghost use Rattle.stored.specs.Entries.{badForm, Saving, Loading};
 use answers::Answer;
@@ -87,35 +87,6 @@ fn of_sizes(piece_count: usize, piece_byte_len: usize) -> Listed
     Listed::Unlisted
 }
 
-// The record's numbers are good.
-fn is_sound(d: Decoder) -> bool
-    ensures { λ r. ⌜ r ≡ sound d ⌝ }
-{
-    let rows = d.useful_piece_count.0;
-    let taken = d.received_piece_count.0;
-    if !block::sizes_fit(d.required_piece_count, d.piece_byte_len) {
-        return false;
-    }
-    if d.required_piece_count < rows {
-        return false;
-    }
-    if taken < rows {
-        return false;
-    }
-    taken <= 65535
-}
-
-// 22, beside a matrix of so many bytes.
-fn is_bad(d: Decoder, room: usize) -> bool
-    ensures { λ r. ⌜ r ≡ badState d room ⌝ }
-{
-    if !is_sound(d) {
-        return true;
-    }
-    let k = d.required_piece_count;
-    room < k * (k + d.piece_byte_len)
-}
-
 // The held bytes of a matrix, then zeros.
 fn put_matrix(elements: &[u8], held: usize, part: &mut [u8])
     requires { ⌜ (held ≤ length (now elements)) × (held ≤ length (now part)) ⌝ }
@@ -146,7 +117,7 @@ fn put_form(g: Geometry, d: Decoder, elements: &[u8], out: &mut [u8])
 pub fn save(d: Decoder, elements: &[u8], out: &mut [u8]) -> Saved
     ensures { λ r. ⌜ Saving d (now (elements .entry)) (now (out .entry)) r (now (out .exit)) ⌝ }
 {
-    if is_bad(d, elements.len()) {
+    if !d.holds(elements.len()) {
         return Saved::Refused(Answer::BadState);
     }
     let Listed::Of(g) = of_sizes(d.required_piece_count, d.piece_byte_len) else {

@@ -11,9 +11,10 @@ use lib.Seq.{drop-drop}
 use Rattle.linear.specs.Buffer.{flat}
 use Rattle.linear.proofs.Buffer.{length-part}
 use Rattle.stream.specs.Geometries.{bodyOf}
-use Rattle.decoder.specs.Records.{kOf, FOf, rowsIn, takenBy, heldRows}
+use Rattle.decoder.specs.Records.{rowsIn, takenBy, heldRows}
 use Rattle.stored.specs.Forms.{matrixSize, formOf}
-use Rattle.stored.proofs.Numbers.{Good, not-bad, few-pieces, small}
+use Rattle.decoder.proofs.Sound.{Holds, holds}
+use Rattle.stored.proofs.Numbers.{few-pieces, small}
 use Rattle.stored.proofs.Forms.{held-bytes, held-inside, held-room}
 use Rattle.stored.proofs.put_form.Statement.{statement}
 use Rattle.stored.proofs.put_form.Tie as tie
@@ -40,11 +41,11 @@ part-long a b c d n out h = length-part 4 n (headed a b c d out) (subst (λ (m :
 
 -- ---- what the record's numbers allow
 
-numbers : (c : tie.Start) → Good (c .args .d) × (kOf (c .args .d) * FOf (c .args .d) ≤ length (c .args .elements .now))
-numbers c = not-bad (c .args .d) (length (c .args .elements .now)) (c .pre .1 .0)
+numbers : (c : tie.Start) → Holds (c .args .d) (length (c .args .elements .now))
+numbers c = holds (c .args .d) (length (c .args .elements .now)) (c .pre .1 .0)
 
 few-rows : (c : tie.Start) → rowsIn (c .args .d) ≤ 32
-few-rows c = omega (arith, numbers c .0 .few, c .pre .0 .0, few-pieces (c .args .g))
+few-rows c = omega (arith, numbers c .numbers .rows-pieces, c .pre .0 .0, few-pieces (c .args .g))
 
 -- the held bytes lie within the form's matrix, and within the decoder's
 abbrev Held : ℕ → tie.Start → Type 0
@@ -55,9 +56,9 @@ held c =
     let s = c .before .before .before .before .before in
     let a = s .args in
     let (k-is, L-is) = s .pre .0 in
-    let (n, room) = numbers s in
+    let n = numbers s in
     subst (λ (b : ℕ). Held b s) (sym (c .body-len .ensures))
-    (held-inside (a .g) (a .d) (a .elements .now) k-is L-is (n .few) room, held-room (a .g) (a .d) (a .elements .now) k-is L-is (n .few) room)
+    (held-inside (a .g) (a .d) (a .elements .now) k-is L-is (n .numbers .rows-pieces) (n .room), held-room (a .g) (a .d) (a .elements .now) k-is L-is (n .numbers .rows-pieces) (n .room))
 
 -- the part that is lent
 lent : (c : tie.After-form-len) → (c .form-len .result - 4 ≡ matrixSize (c .before .before .before .before .args .g))
@@ -107,7 +108,7 @@ put-form-spec =
     (λ c. search needs)
     (λ c. omega (arith, few-rows (c .before .before .before)))
     (λ c. simp length-set (omega arith))
-    (λ c. omega (arith, numbers (c .before .before .before) .0 .most))
+    (λ c. omega (arith, numbers (c .before .before .before) .numbers .taken))
     (λ c. simp length-set (omega arith))
     (λ c. search needs)
     (λ c. simp length-set (omega arith))

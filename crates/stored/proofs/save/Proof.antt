@@ -4,6 +4,7 @@ use mathlib.Core.Path.{_≡_, sym, _∙_, subst}
 use mathlib.Core.Bool.{false}
 use Prim.Native.Nat.{ℕ, _≤_, _<_}
 use borrow.Author.Needs.{needs}
+use borrow.Author.Tests.{not-true, not-false}
 use lib.ListN.{length}
 use Rattle.decoder.specs.Records.{kOf, LOf, badState}
 use Rattle.stored.specs.declared.Saved.the-variants as saved
@@ -16,11 +17,11 @@ use Rattle.stored.proofs.save.Statement.{statement}
 use Rattle.stored.proofs.save.Tie as tie
 
 returns : tie.Need-returns
-returns c = let a = c .before .before .before .before .args in saves-bad (a .d) (a .elements .now) (a .out .now) (sym (c .before .is-bad .ensures) ∙ c .if1 .taken)
+returns c = let a = c .before .before .before .before .args in saves-bad (a .d) (a .elements .now) (a .out .now) (not-false (badState _ _) (sym (c .before .holds .ensures) ∙ not-true (c .before .holds .result) (c .if1 .taken)))
 
 -- the record is good
 fine : (c : tie.Else1) → badState (c .before .before .before .before .args .d) (length (c .before .before .before .before .args .elements .now)) ≡ false
-fine c = sym (c .before .is-bad .ensures) ∙ c .if1 .left
+fine c = not-true _ (sym (c .before .holds .ensures) ∙ not-false (c .before .holds .result) (c .if1 .left))
 
 returns-2 : tie.Need-returns-2
 returns-2 c =
