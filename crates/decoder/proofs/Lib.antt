@@ -8,3 +8,4 @@ pub mod Accepted
 pub mod Taking
 pub mod OneResult
 pub mod Counters
+pub mod Calls

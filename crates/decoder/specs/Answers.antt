@@ -51,6 +51,10 @@ unfoldable pub completeNumber : Complete → ℕ
 completeNumber (complete.Of b) = 0
 completeNumber (complete.Refused a) = numberOf a
 
+unfoldable pub completeValues : Complete → List ℕ
+completeValues (complete.Of b) = pick b 1 0 ∷ []
+completeValues (complete.Refused a) = []
+
 unfoldable pub recoveredNumber : Recovered → ℕ
 recoveredNumber (recovered.Data n) = 0
 recoveredNumber (recovered.Refused a) = numberOf a

@@ -5,3 +5,4 @@ pub mod Independence
 pub mod EndToEnd
 pub mod Witness
 pub mod Worked
+pub mod Resumed

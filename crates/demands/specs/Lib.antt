@@ -4,3 +4,4 @@ pub mod Calls
 pub mod Sent
 pub mod Witness
 pub mod Worked
+pub mod Resumed

@@ -33,6 +33,7 @@ use Rattle.decoder.specs.declared.Recovered.{Recovered}
 use Rattle.decoder.specs.declared.Recovered.the-variants as recovered
 use Rattle.decoder.specs.Records.{kOf, LOf, FOf, rowsIn, takenBy, sound, badState, heldRows}
 use Rattle.decoder.proofs.Sound.{Holds, holds}
+use Rattle.decoder.specs.Answers.{kept}
 use Rattle.decoder.specs.Entries.{decoderOf, takeRefusal, rowsAfter, after, taking, Decoded, blockIn, recoverRefusal, Recovery}
 use Rattle.stored.specs.declared.Listed.{Listed}
 use Rattle.stored.specs.declared.Listed.the-variants as listed
@@ -42,7 +43,7 @@ use Rattle.stored.specs.declared.Loaded.{Loaded}
 use Rattle.stored.specs.declared.Loaded.the-variants as loaded
 use Rattle.stored.specs.Forms.{storedKind, matrixSize, sizeGeometry, formOf}
 use Rattle.stored.specs.Entries.{sizeRefusal, saveRefusal, savedForm, Saving, Loading}
-use Rattle.stored.specs.Alike.{Alike, next}
+use Rattle.stored.specs.Alike.{Alike}
 use Rattle.stored.proofs.Outcomes.{was-saved}
 use Rattle.stored.proofs.RoundTrip.{loads-back, same-rows}
 
@@ -66,7 +67,7 @@ let-in d room size e =
     let (s, e₃) = passes (not (eqb size (FOf d))) InvalidPieceLength _ (omega arith) e₂ in
     (holds d room a, eqb-true size (FOf d) (not-false (eqb size (FOf d)) s))
 
-not-yet {ℓ} : {A : Type ℓ} (t : Bool) (x y : A) → ifOk (pick t BadState NotAllPiecesReceivedYet) x y ≡ y
+pub not-yet {ℓ} : {A : Type ℓ} (t : Bool) (x y : A) → ifOk (pick t BadState NotAllPiecesReceivedYet) x y ≡ y
 not-yet true x y = refl
 not-yet false x y = refl
 
@@ -84,7 +85,7 @@ not-complete d a M out e p =
     )
 
 module _ (d : Decoder) (a b : List ℕ) (h : Alike d a b) where
-  same-state : badState d (length a) ≡ badState d (length b)
+  pub same-state : badState d (length a) ≡ badState d (length b)
   unfolding badState
   same-state = λ i. not (sound d) || (le-ltb (length a) (kOf d * FOf d) (h .here) ∙ sym (le-ltb (length b) (kOf d * FOf d) (h .there))) i
 
@@ -113,11 +114,11 @@ module _ (d : Decoder) (a b : List ℕ) (h : Alike d a b) where
         (piece.NotUseful (decoderOf (kOf d) (LOf d) (length rows) (takenBy d + 1)))
         (piece.Useful (decoderOf (kOf d) (LOf d) (length rows) (takenBy d + 1)))) same-after
 
-    next-is : next d (taking 𝓕 d a full) ≡ after 𝓕 d a full
-    unfolding next taking
-    next-is = go (eqb (length (rowsAfter 𝓕 d a full)) (rowsIn d))
+    kept-is : kept d (taking 𝓕 d a full) ≡ after 𝓕 d a full
+    unfolding kept taking
+    kept-is = go (eqb (length (rowsAfter 𝓕 d a full)) (rowsIn d))
       where
-        go : (t : Bool) → next d (pick t (piece.NotUseful (after 𝓕 d a full)) (piece.Useful (after 𝓕 d a full))) ≡ after 𝓕 d a full
+        go : (t : Bool) → kept d (pick t (piece.NotUseful (after 𝓕 d a full)) (piece.Useful (after 𝓕 d a full))) ≡ after 𝓕 d a full
         go true = refl
         go false = refl
 
@@ -138,8 +139,8 @@ module _ (d : Decoder) (a b : List ℕ) (h : Alike d a b) where
         }
 
     -- the same answer, and matrices alike beside the record after it
-    pub takes-alike : {r r′ : Taken} {a′ b′ : List ℕ} → Decoded 𝓕 d a full r a′ → Decoded 𝓕 d b full r′ b′ → (r ≡ r′) × Alike (next d r) a′ b′
-    unfolding next
+    pub takes-alike : {r r′ : Taken} {a′ b′ : List ℕ} → Decoded 𝓕 d a full r a′ → Decoded 𝓕 d b full r′ b′ → (r ≡ r′) × Alike (kept d r) a′ b′
+    unfolding kept
     takes-alike {r} {r′} {a′} {b′} p q = (
       p .result ∙ (λ i. ifOk (same-refusal i) (same-taking i) (piece.Refused (same-refusal i))) ∙ sym (q .result),
       go (numberOf refusal) refl (p .result) (p .left)
@@ -148,25 +149,25 @@ module _ (d : Decoder) (a b : List ℕ) (h : Alike d a b) where
       where
         go : (m : ℕ) → numberOf refusal ≡ m → r ≡ ifZero m (taking 𝓕 d a full) (piece.Refused refusal)
             → a′ ≡ ifZero m (holding (kOf d) (FOf d) (rowsAfter 𝓕 d a full) a) a → b′ ≡ ifZero m (holding (kOf d) (FOf d) (rowsAfter 𝓕 d b full) b) b
-            → Alike (next d r) a′ b′
+            → Alike (kept d r) a′ b′
         go zero e r-is a-is b-is =
-            subst (λ (x : Decoder). Alike x a′ b′) (sym (ap (next d) r-is ∙ next-is))
+            subst (λ (x : Decoder). Alike x a′ b′) (sym (ap (kept d) r-is ∙ kept-is))
             (subst (λ (x : List ℕ). Alike (after 𝓕 d a full) x b′) (sym a-is)
             (subst (λ (x : List ℕ). Alike (after 𝓕 d a full) (holding (kOf d) (FOf d) (rowsAfter 𝓕 d a full) a) x) (sym b-is) (after-alike e)))
         go (suc m) e r-is a-is b-is =
-            subst (λ (x : Decoder). Alike x a′ b′) (sym (ap (next d) r-is))
+            subst (λ (x : Decoder). Alike x a′ b′) (sym (ap (kept d) r-is))
             (subst (λ (x : List ℕ). Alike d x b′) (sym a-is) (subst (λ (x : List ℕ). Alike d a x) (sym b-is) h))
 
   -- ---- recovering, and saving again
 
-  same-block : eqb (rowsIn d) (kOf d) ≡ true → blockIn d a ≡ blockIn d b
+  pub same-block : eqb (rowsIn d) (kOf d) ≡ true → blockIn d a ≡ blockIn d b
   unfolding blockIn heldRows
   same-block e =
       let all : rowsIn d ≡ kOf d = eqb-true (rowsIn d) (kOf d) e in
       ap (λ (n : ℕ). flat (map (drop (kOf d)) (rowsOf (FOf d) n a))) (sym all) ∙ ap (λ (rows : List (List ℕ)). flat (map (drop (kOf d)) rows)) (h .rows)
       ∙ ap (λ (n : ℕ). flat (map (drop (kOf d)) (rowsOf (FOf d) n b))) all
 
-  same-recovery : (M room : ℕ) → eqb (rowsIn d) (kOf d) ≡ true → recoverRefusal M d a room ≡ recoverRefusal M d b room
+  pub same-recovery : (M room : ℕ) → eqb (rowsIn d) (kOf d) ≡ true → recoverRefusal M d a room ≡ recoverRefusal M d b room
   unfolding recoverRefusal
   same-recovery M room e =
       λ i. pick (same-state i) BadState

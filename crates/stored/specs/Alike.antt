@@ -4,8 +4,6 @@ use mathlib.Core.List.{List}
 use Prim.Native.Nat.{ℕ, _*_, _≤_}
 use lib.ListN.{length}
 use Rattle.decoder.specs.declared.Decoder.{Decoder}
-use Rattle.decoder.specs.declared.Taken.{Taken}
-use Rattle.decoder.specs.declared.Taken.the-variants as piece
 use Rattle.decoder.specs.Records.{kOf, FOf, heldRows}
 
 -- each is as long as the record needs, and they hold the same rows
@@ -13,9 +11,3 @@ pub record Alike (d : Decoder) (a b : List ℕ) : Type 0 where
   pub here : kOf d * FOf d ≤ length a
   pub there : kOf d * FOf d ≤ length b
   pub rows : heldRows d a ≡ heldRows d b
-
--- the record after a piece: where it is refused, the caller's copy
-unfoldable pub next : Decoder → Taken → Decoder
-next d (piece.Useful d′) = d′
-next d (piece.NotUseful d′) = d′
-next d (piece.Refused a) = d

@@ -1,0 +1,22 @@
+-- "From fresh, saving and loading at any point leaves every later line as it would have been." The lines are those of `setjoin`, whatever the rest of
+-- the stream; before them some pieces were read, and some were repeats.
+use mathlib.Core.Path.{_≡_}
+use mathlib.Core.List.{List}
+use Prim.Native.Nat.{ℕ}
+use Rattle.galois.specs.FieldLaws.{FieldLaws}
+use Rattle.stream.specs.Streams.{Stream}
+use Rattle.decoder.specs.declared.Decoder.{Decoder}
+use Rattle.stored.specs.declared.Loaded.{Loaded}
+use Rattle.stored.specs.declared.Loaded.the-variants as loaded
+use Rattle.listing.specs.declared.join.Held.the-variants as held
+use Rattle.listing.specs.declared.join.Joining.{Joining}
+use Rattle.listing.specs.Listing.{linesFrom}
+
+abbrev pub goingOn : Decoder → ℕ → ℕ → Joining
+goingOn d pieces repeats = record { held = held.Of d; pieces = pieces; repeats = repeats }
+
+-- a decoder and what was loaded of it: the same record, and beside it a matrix that prints the same
+pub record Resumed (𝓕 : FieldLaws) (d : Decoder) (elements : List ℕ) (r : Loaded) (matrix : List ℕ) : Type 0 where
+  pub same-record : r ≡ loaded.Of d
+  pub same-lines : (pieces repeats : ℕ) (later : Stream)
+      → linesFrom 𝓕 (goingOn d pieces repeats) elements later ≡ linesFrom 𝓕 (goingOn d pieces repeats) matrix later
