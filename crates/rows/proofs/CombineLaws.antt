@@ -4,25 +4,25 @@
 use mathlib.Core.Path.{_≡_, refl, sym, ap, ap₂, _∙_}
 use mathlib.Core.List.{List, [], _∷_, map}
 use Prim.Native.Nat.{ℕ, zero, suc, _+_, _*_, _/_, _%_, _^_, _≤_, _<_}
-use native.Mathlib.Nat.{pow-suc, zero-div, div-one, div-div-eq-div-mul, div-le-self}
-use native.Mathlib.Numerals.{add-one}
+use native.Mathlib.Nat.{zero-mul as nat-zero-mul, one-mul as nat-one-mul, pow-suc, zero-div, div-one, div-div-eq-div-mul, div-le-self}
 use native.Mathlib.Omega.{arith}
-use lib.ListN.{length, getD, take, replicate, length-replicate}
+use lib.ListN.{length, getD, take, replicate, length-replicate, length-map}
 use lib.Seq.{ext-getD, take-all}
 use Rattle.galois.specs.Gf.{_⊕_}
 use Rattle.galois.specs.FieldLaws.{FieldLaws}
 use Rattle.galois.proofs.Sum.{⊕-zero, ⊕-assoc, ⊕-middle, ⊕-above, digit}
 use Rattle.galois.proofs.Field.{mul-zero, zero-mul, one-mul, ⊕-mul}
 use Rattle.linear.specs.All.{All}
-use Rattle.linear.specs.Rows.{entry, scaleRow}
+use Rattle.linear.specs.Rows.{scaleRow}
 use Rattle.linear.specs.Buffer.{rowsOf}
 use Rattle.linear.specs.Pieces.{column, dot, combine}
 use Rattle.linear.proofs.All.{zeros-entry}
 use Rattle.linear.proofs.Sums.{length-scale, scale-entry}
 use Rattle.linear.proofs.Blocks.{column-entry}
-use Rattle.linear.proofs.Buffer.{sizes-of}
+use Rattle.linear.proofs.Buffer.{sizes-of, entry-at}
 use Rattle.linear.proofs.Coding.{length-combine, combine-entry}
 use Rattle.rows.specs.Outcomes.{addRow}
+use Rattle.rows.specs.Chosen.{sumChosen}
 use Rattle.rows.proofs.RowLaws.{length-sum, getD-sum}
 
 -- ---- the numbers without their b low bits, and bit b of each
@@ -37,7 +37,7 @@ pub above-none : (cs : List ℕ) → above 0 cs ≡ cs
 above-none [] = refl
 above-none (c ∷ cs) = ap₂ (λ (n : ℕ) (l : List ℕ). n ∷ l) (div-one c) (above-none cs)
 
-pub bit-at : (b : ℕ) (cs : List ℕ) (j : ℕ) → getD (bits b cs) j 0 ≡ getD cs j 0 / 2 ^ b % 2
+bit-at : (b : ℕ) (cs : List ℕ) (j : ℕ) → getD (bits b cs) j 0 ≡ getD cs j 0 / 2 ^ b % 2
 bit-at b [] j = sym (ap (λ (n : ℕ). n % 2) (zero-div (2 ^ b)))
 bit-at b (c ∷ cs) zero = refl
 bit-at b (c ∷ cs) (suc j) = bit-at b cs j
@@ -81,51 +81,43 @@ module _ (𝓕 : FieldLaws) where
   dot-next (suc j) (x ∷ u) (y ∷ v) =
       ap (λ (n : ℕ). 𝓕 .mul x y ⊕ n) (dot-next j u v) ∙ sym (⊕-assoc (𝓕 .mul x y) (dot 𝓕 (take j u) v) (𝓕 .mul (getD u j 0) (getD v j 0)))
 
-  -- ---- the loop over rows: the first j of them are added to a row, each times its number
+  -- ---- the rows whose number has a bit
 
-  pub record Gathered (j : ℕ) (cs : List ℕ) (rows : List (List ℕ)) (old now : List ℕ) : Type 0 where
-    pub added : (i : ℕ) → i < length old → getD now i 0 ≡ getD old i 0 ⊕ dot 𝓕 (take j cs) (column i rows)
+  digit-mul : (d x : ℕ) → d < 2 → x < 256 → d * x ≡ 𝓕 .mul d x
+  digit-mul zero x h l = nat-zero-mul x ∙ sym (zero-mul 𝓕 x)
+  digit-mul (suc zero) x h l = nat-one-mul x ∙ sym (one-mul 𝓕 x l)
+  digit-mul (suc (suc d)) x h l = absurd (omega arith)
 
-  pub gathers-none : (cs : List ℕ) (rows : List (List ℕ)) (old : List ℕ) → Gathered 0 cs rows old old
-  unfolding dot
-  gathers-none cs rows old = record { added = λ i h. sym (⊕-zero (getD old i 0)) }
+  module _ (b n : ℕ) (cs buffer : List ℕ) (byte : (i : ℕ) → getD buffer i 0 < 256) where
+    chosen-dot : (i j : ℕ) → i < n → j ≤ length cs
+        → sumChosen b n cs buffer i j ≡ dot 𝓕 (take j (bits b cs)) (column i (rowsOf n (length cs) buffer))
+    unfolding sumChosen dot
+    chosen-dot i zero h k = refl
+    chosen-dot i (suc j) h k =
+        let rows : List (List ℕ) = rowsOf n (length cs) buffer in
+        let number : getD (bits b cs) j 0 ≡ getD cs j 0 / 2 ^ b % 2 = bit-at b cs j in
+        let at : getD (column i rows) j 0 ≡ getD buffer (j * n + i) 0 = column-entry i rows j ∙ entry-at n (length cs) j i buffer k h in
+        ap₂ (λ (x y : ℕ). x ⊕ y) (chosen-dot i j h (omega arith))
+        (digit-mul (getD cs j 0 / 2 ^ b % 2) (getD buffer (j * n + i) 0) (digit (getD cs j 0 / 2 ^ b)) (byte (j * n + i))
+        ∙ sym (ap₂ (λ (x y : ℕ). 𝓕 .mul x y) number at))
+        ∙ sym (dot-next j (bits b cs) (column i rows))
 
-  module _ {j : ℕ} {cs : List ℕ} {rows : List (List ℕ)} {old now : List ℕ} (g : Gathered j cs rows old now) where
-    gathers : {last : List ℕ} → ((i : ℕ) → i < length old → getD last i 0 ≡ getD now i 0 ⊕ 𝓕 .mul (getD cs j 0) (entry rows j i))
-        → Gathered (j + 1) cs rows old last
-    gathers {last} f = record {
-      added =
-          λ i h. f i h ∙ ap (λ (n : ℕ). n ⊕ 𝓕 .mul (getD cs j 0) (entry rows j i)) (g .added i h)
-          ∙ ⊕-assoc (getD old i 0) (dot 𝓕 (take j cs) (column i rows)) (𝓕 .mul (getD cs j 0) (entry rows j i))
-          ∙ ap (λ (n : ℕ). getD old i 0 ⊕ n)
-          (ap (λ (n : ℕ). dot 𝓕 (take j cs) (column i rows) ⊕ 𝓕 .mul (getD cs j 0) n) (sym (column-entry i rows j))
-          ∙ sym (dot-next j cs (column i rows)) ∙ ap (λ (n : ℕ). dot 𝓕 (take n cs) (column i rows)) (sym (add-one j)));
-    }
-
-    pub gathers-row : {row last : List ℕ} → getD cs j 0 ≡ 1 → getD rows j [] ≡ row → length row ≡ length old → length now ≡ length old
-        → ((i : ℕ) → i < length old → entry rows j i < 256) → last ≡ addRow row now → Gathered (j + 1) cs rows old last
-    unfolding entry
-    gathers-row {row} {last} o r lr ln b e =
-        gathers (λ i h. ap (λ (l : List ℕ). getD l i 0) e ∙ getD-sum row now i (omega arith) (omega arith)
-        ∙ ap (λ (n : ℕ). getD now i 0 ⊕ n)
-        (ap (λ (l : List ℕ). getD l i 0) (sym r) ∙ sym (ap (λ (n : ℕ). 𝓕 .mul n (entry rows j i)) o ∙ one-mul 𝓕 (entry rows j i) (b i h))))
-
-    pub gathers-nothing : {last : List ℕ} → getD cs j 0 ≡ 0 → last ≡ now → Gathered (j + 1) cs rows old last
-    gathers-nothing {last} z e =
-        gathers (λ i h. ap (λ (l : List ℕ). getD l i 0) e
-        ∙ sym (ap (λ (n : ℕ). getD now i 0 ⊕ n) (ap (λ (n : ℕ). 𝓕 .mul n (entry rows j i)) z ∙ zero-mul 𝓕 (entry rows j i)) ∙ ⊕-zero (getD now i 0)))
-
-    pub gathers-all : All (λ r. length r ≡ length old) rows → length now ≡ length old → length cs ≤ j
-        → now ≡ addRow (combine 𝓕 (length old) cs rows) old
-    gathers-all s l e =
-        let sum : List ℕ = combine 𝓕 (length old) cs rows in
-        let wide : length sum ≡ length old = length-combine 𝓕 (length old) cs rows in
-        ext-getD 0 now (addRow sum old) (l ∙ sym (length-sum sum old)) (λ i h.
-        let k : i < length old = omega arith in
-        g .added i k
-        ∙ ap (λ (l : List ℕ). getD old i 0 ⊕ dot 𝓕 l (column i rows)) (take-all j cs e)
-        ∙ ap (λ (n : ℕ). getD old i 0 ⊕ n) (sym (combine-entry 𝓕 (length old) cs rows s i))
-        ∙ sym (getD-sum sum old i (omega arith) k))
+    -- bytes that have all of them added
+    pub chosen-all : (old : List ℕ) {now : List ℕ} → length cs * n ≤ length buffer → length old ≡ n → length now ≡ n
+        → ((i : ℕ) → i < n → getD now i 0 ≡ getD old i 0 ⊕ sumChosen b n cs buffer i (length cs))
+        → now ≡ addRow (combine 𝓕 n (bits b cs) (rowsOf n (length cs) buffer)) old
+    chosen-all old {now} fit lo ln f =
+        let rows : List (List ℕ) = rowsOf n (length cs) buffer in
+        let sum : List ℕ = combine 𝓕 n (bits b cs) rows in
+        let wide : length sum ≡ n = length-combine 𝓕 n (bits b cs) rows in
+        let all : length (bits b cs) ≤ length cs = omega (arith, length-map cs (λ m. m / 2 ^ b % 2)) in
+        ext-getD 0 now (addRow sum old) (ln ∙ sym (length-sum sum old ∙ lo)) (λ i h.
+        let k : i < n = omega arith in
+        f i k
+        ∙ ap (λ (x : ℕ). getD old i 0 ⊕ x)
+        (chosen-dot i (length cs) k (omega arith) ∙ ap (λ (l : List ℕ). dot 𝓕 l (column i rows)) (take-all (length cs) (bits b cs) all)
+        ∙ sym (combine-entry 𝓕 n (bits b cs) rows (sizes-of n (length cs) buffer fit) i))
+        ∙ sym (getD-sum sum old i (omega arith) (omega arith)))
 
   -- ---- the loop over bits
 

@@ -4,5 +4,6 @@ pub mod PartLaws
 pub mod Outcomes
 pub mod OneResult
 pub mod Zero
+pub mod ChosenLaws
 pub mod CombineLaws
 pub mod Combined

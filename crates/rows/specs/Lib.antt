@@ -1,3 +1,4 @@
 pub mod Parts
 pub mod Outcomes
 pub mod Combining
+pub mod Chosen

@@ -3,9 +3,9 @@
 ghost use mathlib.Core.Path.{_≡_};
 ghost use mathlib.Core.Bool.{true};
 ghost use mathlib.Core.List.{map};
-ghost use Prim.Native.Nat.{ℕ, _*_, _/_, _%_, _^_, _≤_, _<_};
+ghost use Prim.Native.Nat.{ℕ, _+_, _*_, _/_, _%_, _^_, _≤_, _<_};
 ghost use lib.Dec.{leb};
-ghost use lib.ListN.{length};
+ghost use lib.ListN.{length, getD};
 ghost use Rattle.galois.specs.FieldLaws.{FieldLaws};
 ghost use Rattle.field.specs.FieldOf.{fieldOf};
 ghost use Rattle.linear.specs.Rows.{scaleRow};
@@ -14,6 +14,7 @@ ghost use Rattle.linear.specs.Pieces.{combine};
 ghost use Rattle.galois.specs.Gf.{_⊕_};
 ghost use Rattle.rows.specs.Outcomes.{addRow};
 ghost use Rattle.rows.specs.Combining.{Combined};
+ghost use Rattle.rows.specs.Chosen.{sumAt, Collected};
 use super::add_row;
 use super::clear;
 use answers::Answer;
@@ -55,21 +56,86 @@ fn sum_bits(f: Field, rows: &[u8], numbers: &[u8], out: &mut [u8])
     }
 }
 
-// The rows whose number has the bit are added.
+// The rows whose number has the bit are added. A branch on the bit, which is as good as random, would be guessed wrong every other time: the
+// starts of the rows are collected without one, for some numbers at a time, and the rows at those starts are added.
 fn add_chosen(rows: &[u8], numbers: &[u8], bit: u32, out: &mut [u8])
     requires { ⌜ (bit < 8) × (length (now numbers) * length (now out) ≤ length (now rows)) ⌝ }
     ensures { λ _. ⌜ ((𝓕 : FieldLaws) → now (out .exit) ≡ addRow (combine 𝓕 (length (now (out .entry))) (map (λ n. n / 2 ^ bit % 2) (now (numbers .entry))) (rowsOf (length (now (out .entry))) (length (now (numbers .entry))) (now (rows .entry)))) (now (out .entry))) ⌝ }
 {
     let width = out.len();
-    let mut start = 0;
-    let mut j = 0;
-    while j < numbers.len() {
-        let end = start + width;
-        if (numbers[j] >> bit) % 2 == 1 {
-            add_row(out, &rows[start..end]);
-        }
-        start = end;
+    let mut starts = [0usize; 64];
+    let mut from = 0;
+    while from < numbers.len() {
+        let to = if numbers.len() - from < starts.len() {
+            numbers.len()
+        } else {
+            from + starts.len()
+        };
+        let n = collect(numbers, bit, from, to, width, &mut starts);
+        add_rows(rows, &starts, n, out);
+        from = to;
+    }
+}
+
+// The starts of the rows from row `from` up to row `to` whose number has the bit. The result is how many they are: each start is stored, and
+// the next one over it where the number lacks the bit.
+fn collect(
+    numbers: &[u8],
+    bit: u32,
+    from: usize,
+    to: usize,
+    width: usize,
+    starts: &mut [usize],
+) -> usize
+    requires { ⌜ (bit < 8) × (from ≤ to) × (to ≤ from + length (now starts)) × (to ≤ length (now numbers)) × (to * width ≤ 18446744073709551615) ⌝ }
+    ensures { λ r. ⌜ Collected bit width (now (numbers .entry)) from to (now (starts .exit)) r ⌝ }
+{
+    let mut start = from * width;
+    let mut n = 0;
+    let mut j = from;
+    while j < to {
+        starts[n] = start;
+        n += ((numbers[j] >> bit) % 2) as usize;
+        start += width;
         j += 1;
+    }
+    n
+}
+
+// The rows at the first n starts are added, four in a pass while there are four: a pass reads and writes `out` once.
+fn add_rows(rows: &[u8], starts: &[usize], n: usize, out: &mut [u8])
+    requires { ⌜ (n ≤ length (now starts)) × ((k : ℕ) → k < n → getD (now starts) k 0 + length (now out) ≤ length (now rows)) ⌝ }
+    ensures { λ _. ⌜ ((i : ℕ) → i < length (now (out .entry)) → getD (now (out .exit)) i 0 ≡ getD (now (out .entry)) i 0 ⊕ sumAt (now (rows .entry)) (now (starts .entry)) i n) ⌝ }
+{
+    let mut k = 0;
+    while k < n {
+        let start = starts[k];
+        if 4 <= n - k {
+            add_four(
+                rows,
+                start,
+                starts[k + 1],
+                starts[k + 2],
+                starts[k + 3],
+                out,
+            );
+            k += 4;
+        } else {
+            let end = start + out.len();
+            add_row(out, &rows[start..end]);
+            k += 1;
+        }
+    }
+}
+
+fn add_four(rows: &[u8], a: usize, b: usize, c: usize, d: usize, out: &mut [u8])
+    requires { ⌜ (a + length (now out) ≤ length (now rows)) × (b + length (now out) ≤ length (now rows)) × (c + length (now out) ≤ length (now rows)) × (d + length (now out) ≤ length (now rows)) ⌝ }
+    ensures { λ _. ⌜ ((i : ℕ) → i < length (now (out .entry)) → getD (now (out .exit)) i 0 ≡ getD (now (out .entry)) i 0 ⊕ getD (now (rows .entry)) (a + i) 0 ⊕ getD (now (rows .entry)) (b + i) 0 ⊕ getD (now (rows .entry)) (c + i) 0 ⊕ getD (now (rows .entry)) (d + i) 0) ⌝ }
+{
+    let mut i = 0;
+    while i < out.len() {
+        out[i] = out[i] ^ rows[a + i] ^ rows[b + i] ^ rows[c + i] ^ rows[d + i];
+        i += 1;
     }
 }
 

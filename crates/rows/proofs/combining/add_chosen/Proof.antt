@@ -1,84 +1,76 @@
--- `rows::combining::add_chosen` meets its contract. The invariant: the rows before row j have been added, each times its bit.
+-- `rows::combining::add_chosen` meets its contract. The invariant: the rows before row `from` whose number has the bit have been added.
 -- Assumes nothing.
-use mathlib.Core.Path.{_≡_, refl, sym, ap, _∙_}
+use mathlib.Core.Path.{_≡_, refl, sym, ap, _∙_, subst}
 use mathlib.Core.Logic.{⊎-elim}
-use mathlib.Core.List.{[]}
-use Prim.Native.Nat.{ℕ, _+_, _*_, _/_, _%_, _^_, _-_, _≤_, _<_}
-use native.Mathlib.Nat.{zero-mul, suc-mul}
-use native.Mathlib.Numerals.{add-one}
+use Prim.Native.Nat.{ℕ, _+_, _*_, _-_, _≤_, _<_}
+use native.Mathlib.Nat.{mul-le-mul-right}
 use native.Mathlib.Omega.{arith}
-use lib.ListN.{length, getD, take, drop, length-map}
-use borrow.Author.Needs.{needs}
-use Rattle.galois.specs.FieldLaws.{FieldLaws}
-use Rattle.linear.specs.Buffer.{rowsOf}
-use Rattle.linear.proofs.Buffer.{row-end, sizes-of, row-at, length-row, length-part, entry-at}
-use Rattle.rows.proofs.CombineLaws.{bits, Gathered, bit-at, gathers-none, gathers-row, gathers-nothing, gathers-all}
-use Rattle.rows.proofs.RowLaws.{length-sum}
+use lib.ListN.{length, getD}
+use Rattle.galois.specs.Gf.{_⊕_}
+use Rattle.rows.specs.Chosen.{sumChosen}
+use Rattle.rows.proofs.ChosenLaws.{chosen-none, chosen-added}
+use Rattle.rows.proofs.CombineLaws.{chosen-all}
 use Rattle.rows.proofs.combining.add_chosen.Statement.{statement}
 use Rattle.rows.proofs.combining.add_chosen.Tie as tie
 
-even : (x : ℕ) → (x % 2 ≡ 1 → ⊥) → x % 2 ≡ 0
-even x n = omega arith
-
 abbrev Inv-loop : tie.InvT-loop
-Inv-loop rows numbers bit out₀ width start₀ j₀ out start j =
-    (width ≡ length out₀) × (length out ≡ length out₀) × (j ≤ length numbers) × (start ≡ j * length out₀)
-    × ((𝓕 : FieldLaws) → Gathered 𝓕 j (bits bit numbers) (rowsOf (length out₀) (length numbers) rows) out₀ out)
+Inv-loop rows numbers bit out₀ width starts₀ from₀ out starts from =
+    (width ≡ length out₀) × (length out ≡ length out₀) × (length starts ≡ 64) × (from ≤ length numbers)
+    × ((i : ℕ) → i < length out₀ → getD out i 0 ≡ getD out₀ i 0 ⊕ sumChosen bit (length out₀) numbers rows i from)
 
 abbrev μ-loop : tie.MeasureT-loop
-μ-loop rows numbers bit out₀ width start₀ j₀ out start j = length numbers - j
+μ-loop rows numbers bit out₀ width starts₀ from₀ out starts from = length numbers - from
+
+module _ (c : tie.After-starts Inv-loop μ-loop) where
+  -- some numbers more, and no more than there are and than there is room for
+  later : (c .before .before .before .loop .from < c .before .if1 .to) × (c .before .if1 .to ≤ c .before .before .before .loop .from + 64) × (c .before .if1 .to ≤ length (c .before .before .before .before .before .before .before .args .numbers .now))
+  later = ⊎-elim (λ w. (omega arith, omega arith, omega arith)) (λ w. (omega arith, omega arith, omega arith)) (c .before .if1 .came)
+
+  fits : c .before .if1 .to * length (c .before .before .before .before .before .before .before .args .out .now) ≤ length (c .before .before .before .before .before .before .before .args .rows .now)
+  fits = omega (arith, mul-le-mul-right (length (c .before .before .before .before .before .before .before .args .out .now)) (later .2), c .before .before .before .before .before .before .before .pre .1)
 
 loop-holds : tie.Need-loop-holds Inv-loop μ-loop
-loop-holds c = (refl, refl, omega arith, sym (zero-mul _), λ 𝓕. gathers-none 𝓕 _ _ _)
+loop-holds c = (refl, refl, refl, omega arith, λ i h. chosen-none _ _ _ _ i _)
 
-add-end : tie.Need-add-end Inv-loop μ-loop
-add-end c =
-    let a = c .before .before .before .before .before .args in
-    omega (arith, row-end (length (a .out .now)) {j = c .before .loop .j} {n = length (a .numbers .now)} (c .loop-test .taken))
+collect-requires : tie.Need-collect-requires Inv-loop μ-loop
+collect-requires c κs = (omega arith, omega (arith, later c), omega (arith, later c), later c .2, omega (arith, fits c))
 
-part-add-row-end : tie.Need-part-add-row-end Inv-loop μ-loop
-part-add-row-end c =
-    let a = c .before .before .before .before .before .before .before .before .args in
-    omega (arith, row-end (length (a .out .now)) {j = c .before .before .before .before .loop .j} {n = length (a .numbers .now)} (c .before .before .before .loop-test .taken))
+add-rows-requires : tie.Need-add-rows-requires Inv-loop μ-loop
+add-rows-requires c κs =
+    let s = c .before .before .before .before in
+    let a = s .before .before .before .before .before .before .before .args in
+    let l = s .before .before .before .loop in
+    let g = c .before .before .before .collect .ensures in
+    let long : length (c .before .before .before .collect .last .1 .1 .1 .1 .1 .0) ≡ 64 = c .before .before .before .collect .kept .1 .1 .1 .1 .1 .0 ∙ l .inv .2 in (
+      omega (arith, g .few, later s, long),
+      λ k h. subst (λ (w : ℕ). getD (c .before .before .before .collect .last .1 .1 .1 .1 .1 .0) k 0 + w ≤ length (a .rows .now)) (sym (l .inv .1)) (omega (arith, g .within k h, fits s)),
+    )
 
-add-row-requires : tie.Need-add-row-requires Inv-loop μ-loop
-add-row-requires c κs =
-    let a = c .before .before .before .before .before .before .before .before .before .args in
-    let l = c .before .before .before .before .before .loop in
-    let n = length (a .out .now) in
-    let size : l .start + n - l .start ≡ n = omega arith in
-    l .inv .1
-    ∙ sym (ap (λ (k : ℕ). length (take k (drop (l .start) (a .rows .now)))) size
-    ∙ length-part (l .start) n (a .rows .now) (omega (arith, row-end n {j = l .j} {n = length (a .numbers .now)} (c .before .before .before .before .loop-test .taken))))
+loop-less : tie.Need-loop-less Inv-loop μ-loop
+loop-less c = omega (arith, later (c .before .before .before .before .before .before .before))
 
 loop-again : tie.Need-loop-again Inv-loop μ-loop
 loop-again c =
-    let a = c .before .before .before .before .before .before .before .args in
-    let l = c .before .before .before .loop in
-    let n = length (a .out .now) in
-    let m = length (a .numbers .now) in
-    let h : l .j < m = omega arith in
-    let fit : m * n ≤ length (a .rows .now) = c .before .before .before .before .before .before .before .pre .1 in
-    let size : l .start + n - l .start ≡ n = omega arith in
-    let row : getD (rowsOf n m (a .rows .now)) (l .j) [] ≡ take (l .start + n - l .start) (drop (l .start) (a .rows .now)) =
-    row-at n m (l .j) (a .rows .now) h ∙ (λ i. take (sym size i) (drop (sym (l .inv .3) i) (a .rows .now))) in
-    let wide : length (take (l .start + n - l .start) (drop (l .start) (a .rows .now))) ≡ n = ap length (sym row) ∙ length-row n m (l .j) (a .rows .now) h fit in (
+    let s = c .before .before .before .before .before .before .before in
+    let a = s .before .before .before .before .before .before .before .args in
+    let l = s .before .before .before .loop in (
       refl,
-      ⊎-elim (λ w. ap length (w .6 ∙ w .3 .ensures) ∙ length-sum _ _ ∙ l .inv .1) (λ w. ap length (w .1) ∙ l .inv .1) (c .if1 .came),
-      omega arith,
-      ap (λ (s : ℕ). s + n) (l .inv .3) ∙ sym (ap (λ (k : ℕ). k * n) (add-one (l .j)) ∙ suc-mul (l .j) n),
-      λ 𝓕. ⊎-elim
-          (λ w. gathers-row 𝓕 (l .inv .4 𝓕) (bit-at (a .bit) (a .numbers .now) (l .j) ∙ w .0 .taken) row wide (l .inv .1)
-          (λ i k. omega (arith, entry-at n m (l .j) i (a .rows .now) h k, c .before .before .before .before .before .before .shared-slice-known .given (l .j * n + i))) (w .6 ∙ w .3 .ensures))
-          (λ w. gathers-nothing 𝓕 (l .inv .4 𝓕) (bit-at (a .bit) (a .numbers .now) (l .j) ∙ even _ (w .0 .left)) (w .1)) (c .if1 .came),
+      c .before .before .add-rows .kept .1 .1 .1 .0 ∙ l .inv .1,
+      c .before .before .before .before .before .before .collect .kept .1 .1 .1 .1 .1 .0 ∙ l .inv .2,
+      later s .2,
+      λ i h. chosen-added (a .bit) (length (a .out .now)) (a .numbers .now) (c .before .before .before .before .before .before .collect .ensures) (a .rows .now) i (getD (a .out .now) i 0) (l .inv .4 i h) (c .before .before .add-rows .ensures i (omega (arith, l .inv .1))),
     )
+
+same-length : tie.Need-same-length Inv-loop μ-loop
+same-length c = c .before .loop .inv .1
 
 returns : tie.Need-returns Inv-loop μ-loop
 returns c =
     let a = c .before .before .before .before .before .args in
     let l = c .before .loop in
-    λ 𝓕. gathers-all 𝓕 (l .inv .4 𝓕) (sizes-of (length (a .out .now)) (length (a .numbers .now)) (a .rows .now) (c .before .before .before .before .before .pre .1)) (l .inv .1)
-    (omega (arith, length-map (a .numbers .now) (λ n. n / 2 ^ (a .bit) % 2)))
+    let done : l .from ≡ length (a .numbers .now) = omega arith in
+    λ 𝓕. chosen-all 𝓕 (a .bit) (length (a .out .now)) (a .numbers .now) (a .rows .now) (λ i. omega (arith, c .before .before .before .before .shared-slice-known .given i)) (a .out .now) (c .before .before .before .before .before .pre .1) refl (l .inv .1)
+    (λ i h. l .inv .4 i h ∙ ap (λ (j : ℕ). getD (a .out .now) i 0 ⊕ sumChosen (a .bit) (length (a .out .now)) (a .numbers .now) (a .rows .now) i j) done)
 
 pub add-chosen-spec : {M : Type 1} → statement M
 add-chosen-spec =
@@ -87,16 +79,13 @@ add-chosen-spec =
     Inv-loop
     μ-loop
     loop-holds
-    add-end
     (λ c. omega arith)
     (λ c. omega arith)
     (λ c. omega arith)
+    collect-requires
     (λ c. omega arith)
-    (λ c. search needs)
-    part-add-row-end
-    add-row-requires
-    (λ c. omega arith)
-    (λ c. omega arith)
+    add-rows-requires
+    loop-less
     loop-again
-    (λ c. omega arith)
+    same-length
     returns)
