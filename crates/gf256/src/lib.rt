@@ -73,6 +73,10 @@ impl Gf256 {
         if a == 0 || b == 0 {
             return 0;
         }
+        // The rows that a decoder holds have pivots of 1, and a use of a table copies it to the stack first.
+        if b == 1 {
+            return a;
+        }
         let l = log_at(a);
         let r = log_at(b);
         exp_at(l + r)
@@ -91,6 +95,10 @@ impl Gf256 {
         let a = self.val;
         if a == 0 {
             return Quotient::ByZero;
+        }
+        // With no table, as in mul_const.
+        if a == 1 {
+            return Quotient::Byte(1);
         }
         Quotient::Byte(exp_at(255 - log_at(a)))
     }

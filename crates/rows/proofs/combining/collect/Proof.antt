@@ -36,7 +36,7 @@ loop-again c =
     collects-more (a .bit) (a .width) (a .numbers .now) (l .inv .3) (omega (arith, l .inv .3 .few)) in (
       ap (λ (s : ℕ). s + a .width) (l .inv .0) ∙ sym (ap (λ (k : ℕ). k * a .width) (add-one (l .j)) ∙ suc-mul (l .j) (a .width)),
       omega arith,
-      length-set (l .starts) (l .n) (l .start) ∙ l .inv .2,
+      length-set (l .starts) (l .n) _ ∙ l .inv .2,
       subst (λ (s : ℕ). Collected (a .bit) (a .width) (a .numbers .now) (a .from) (l .j + 1) (set (l .starts) (l .n) s) (l .n + getD (a .numbers .now) (l .j) 0 / 2 ^ a .bit % 2)) (sym (l .inv .0)) here,
     )
 
