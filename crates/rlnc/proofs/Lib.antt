@@ -1,2 +1,6 @@
 pub mod Numbered
+pub mod Given
 pub mod Records
+pub mod Forms
+pub mod Streams
+pub mod OneResult

@@ -14,7 +14,11 @@ use Rattle.block.specs.Refusal.{ifOk}
 use Rattle.encoder.specs.declared.Made as encoder
 use Rattle.encoder.specs.declared.Made.the-variants as coding
 use Rattle.encoder.specs.Made as encoderMade
-use Rattle.encoder.specs.Entries.{paddedRefusal, NewPadded}
+use Rattle.encoder.specs.Entries.{paddedRefusal, NewPadded, unpaddedRefusal, NewUnpadded}
+use Rattle.recoder.specs.declared.Made as recoder
+use Rattle.recoder.specs.declared.Made.the-variants as recoding
+use Rattle.recoder.specs.Made as recoderMade
+use Rattle.recoder.specs.Entries as recoderEntries
 use Rattle.decoder.specs.declared.Decoder.{Decoder}
 use Rattle.decoder.specs.declared.Made.{Made}
 use Rattle.decoder.specs.declared.Made.the-variants as new
@@ -26,9 +30,9 @@ use Rattle.decoder.specs.Records.{rowsIn, takenBy}
 use Rattle.decoder.specs.Answers.{madeNumber, takenNumber, kept, recoveredNumber}
 use Rattle.decoder.specs.Entries.{newRefusal, NewDecoder, takeRefusal, rowsAfter, after, taking, Decoded, recoverRefusal, Recovery}
 use Rattle.decoder.specs.Calls.{numberNext, recordNext, bufferNext}
-use Rattle.rlnc.specs.Records.{EncoderMade, DecoderMade, PieceTaken, DataRecovered}
+use Rattle.rlnc.specs.Records.{EncoderMade, UnpaddedMade, RecoderMade, DecoderMade, PieceTaken, DataRecovered}
 
-if-ok-ap : {A B : Type 0} (f : A → B) (a : Answer) (x y : A) → f (ifOk a x y) ≡ ifOk a (f x) (f y)
+pub if-ok-ap : {A B : Type 0} (f : A → B) (a : Answer) (x y : A) → f (ifOk a x y) ≡ ifOk a (f x) (f y)
 if-ok-ap f a x y = go (numberOf a)
   where
     go : (n : ℕ) → f (ifZero n x y) ≡ ifZero n (f x) (f y)
@@ -36,7 +40,7 @@ if-ok-ap f a x y = go (numberOf a)
     go (suc n) = refl
 
 -- a result is a value or its refusal, and the value's number is 0
-number-is : (a : Answer) → ifOk a 0 (numberOf a) ≡ numberOf a
+pub number-is : (a : Answer) → ifOk a 0 (numberOf a) ≡ numberOf a
 number-is a = go (numberOf a)
   where
     go : (n : ℕ) → ifZero n 0 n ≡ n
@@ -47,6 +51,10 @@ number-is a = go (numberOf a)
 unfoldable pub lengthAfter : ℕ → encoder.Made → ℕ
 lengthAfter L (coding.Of e) = e .«piece_byte_len»
 lengthAfter L (coding.Refused a) = L
+
+unfoldable pub countAfter : ℕ → recoder.Made → ℕ
+countAfter m (recoding.Of d) = d .«num_pieces_received»
+countAfter m (recoding.Refused a) = m
 
 unfoldable pub rowsOr : ℕ → Made → ℕ
 rowsOr rows (new.Of d) = rowsIn d
@@ -71,6 +79,28 @@ encoder-made {M} {bytes} {block} {last} {k} {L} o c e n = record {
   where
     a : Answer
     a = paddedRefusal (length bytes) k (length block)
+
+pub unpadded-made : {n k L r : ℕ} {m : encoder.Made} → NewUnpadded n k m
+    → (c : encoder.Made) → m ≡ c → r ≡ encoderMade.madeNumber c → UnpaddedMade n k L r (lengthAfter L c)
+unfolding encoderMade.madeNumber encoderMade.made lengthAfter
+unpadded-made {n} {k} {L} o c e t = record {
+  number = t ∙ ap encoderMade.madeNumber (sym e ∙ o .result) ∙ if-ok-ap encoderMade.madeNumber a _ _ ∙ number-is a;
+  length-stored = ap (lengthAfter L) (sym e ∙ o .result) ∙ if-ok-ap (lengthAfter L) a _ _;
+}
+  where
+    a : Answer
+    a = unpaddedRefusal n k
+
+pub recoder-made : {n width k m r : ℕ} {d : recoder.Made} → recoderEntries.NewRecoder n width k d
+    → (c : recoder.Made) → d ≡ c → r ≡ recoderMade.madeNumber c → RecoderMade n width k m r (countAfter m c)
+unfolding recoderMade.madeNumber recoderMade.made countAfter
+recoder-made {n} {width} {k} {m} o c e t = record {
+  number = t ∙ ap recoderMade.madeNumber (sym e ∙ o .result) ∙ if-ok-ap recoderMade.madeNumber a _ _ ∙ number-is a;
+  count-stored = ap (countAfter m) (sym e ∙ o .result) ∙ if-ok-ap (countAfter m) a _ _;
+}
+  where
+    a : Answer
+    a = recoderEntries.newRefusal n width k
 
 pub decoder-made : {L k : ℕ} {elements last : List ℕ} {rows taken r : ℕ} {m : Made} → NewDecoder L k elements m last
     → (c : Made) → m ≡ c → r ≡ madeNumber c → DecoderMade L k elements rows taken r (rowsOr rows c) (takenOr taken c) last

@@ -1,2 +1,5 @@
 pub mod Numbered
+pub mod Given
 pub mod Records
+pub mod Forms
+pub mod Streams

@@ -2,24 +2,44 @@
 -- the lent buffers.
 use mathlib.Core.Path.{_≡_}
 use mathlib.Core.List.{List, _++_}
-use Prim.Native.Nat.{ℕ, _+_, _*_}
+use Prim.Native.Nat.{ℕ, _+_, _*_, _/_}
 use lib.ListN.{length, take, drop, replicate}
 use Rattle.answers.specs.Number.{numberOf}
 use Rattle.galois.specs.FieldLaws.{FieldLaws}
 use Rattle.block.specs.Refusal.{ifOk}
 use Rattle.block.specs.Padding.{pieceLength, padded}
 use Rattle.block.specs.Reading.{reading, dataLength}
-use Rattle.encoder.specs.Entries.{paddedRefusal}
+use Rattle.encoder.specs.declared.Encoder.{Encoder}
+use Rattle.encoder.specs.Entries.{paddedRefusal, unpaddedRefusal}
+use Rattle.recoder.specs.declared.Recoder.{Recoder}
+use Rattle.recoder.specs.Entries as recoding
 use Rattle.decoder.specs.declared.Decoder.{Decoder}
 use Rattle.decoder.specs.Records.{rowsIn, takenBy}
 use Rattle.decoder.specs.Entries.{newRefusal, blockIn, recoverRefusal}
 use Rattle.decoder.specs.Calls.{numberNext, recordNext, bufferNext}
+
+-- the records of these numbers
+abbrev pub encoderOf : ℕ → ℕ → Encoder
+encoderOf k L = record { «piece_count» = k; «piece_byte_len» = L }
+
+abbrev pub recoderOf : ℕ → ℕ → ℕ → Recoder
+recoderOf m width k = record { «num_pieces_received» = m; «full_coded_piece_byte_len» = width; «num_pieces_coded_together» = k }
 
 -- a new encoder of k pieces: `L` is the piece length that stood there
 pub record EncoderMade (M : ℕ) (bytes block : List ℕ) (k L r L′ : ℕ) (last : List ℕ) : Type 0 where
   pub number : r ≡ numberOf (paddedRefusal (length bytes) k (length block))
   pub length-stored : L′ ≡ ifOk (paddedRefusal (length bytes) k (length block)) (pieceLength (length bytes) k) L
   pub left : last ≡ ifOk (paddedRefusal (length bytes) k (length block)) (padded M k bytes ++ drop (k * pieceLength (length bytes) k) block) block
+
+-- the same of n bytes that are the block already
+pub record UnpaddedMade (n k L r L′ : ℕ) : Type 0 where
+  pub number : r ≡ numberOf (unpaddedRefusal n k)
+  pub length-stored : L′ ≡ ifOk (unpaddedRefusal n k) (n / k) L
+
+-- a new recoder of the whole pieces in n bytes: `m` is the number that stood there
+pub record RecoderMade (n width k m r m′ : ℕ) : Type 0 where
+  pub number : r ≡ numberOf (recoding.newRefusal n width k)
+  pub count-stored : m′ ≡ ifOk (recoding.newRefusal n width k) (n / width) m
 
 -- a new decoder: both counts are 0
 pub record DecoderMade (L k : ℕ) (elements : List ℕ) (rows taken r rows′ taken′ : ℕ) (last : List ℕ) : Type 0 where
