@@ -19,9 +19,9 @@ use Rattle.rlnc.specs.Forms.{FormSaved, FormLoaded}
 use Rattle.rlnc.specs.Streams.{RecordGiven, PieceWritten, SizesGiven}
 
 -- where the outcome of the layer below leaves one content for an answer, so does the entry
-pub one-numbered : (Outcome : List ℕ → Answer → Type 0) → ({last last′ : List ℕ} {a : Answer} → Outcome last a → Outcome last′ a → last ≡ last′)
-    → {last last′ : List ℕ} {a : Answer} {r r′ : ℕ} → Numbered (Outcome last) a r → Numbered (Outcome last′) a r′ → (r ≡ r′) × (last ≡ last′)
-one-numbered Outcome one x y = (x .number ∙ sym (y .number), one (x .outcome) (y .outcome))
+pub one-numbered : {last last′ : List ℕ} {a : Answer} {r r′ : ℕ} (Outcome : List ℕ → Answer → Type 0)
+    → ((x y : List ℕ) → Outcome x a → Outcome y a → x ≡ y) → Numbered (Outcome last) a r → Numbered (Outcome last′) a r′ → (r ≡ r′) × (last ≡ last′)
+one-numbered {last} {last′} Outcome one x y = (x .number ∙ sym (y .number), one last last′ (x .outcome) (y .outcome))
 
 pub one-quotient : {q : Quotient} {before after after′ : ℕ} {r r′ : Bool} → QuotientGiven q before r after → QuotientGiven q before r′ after′
     → (r ≡ r′) × (after ≡ after′)
