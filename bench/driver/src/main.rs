@@ -1,7 +1,11 @@
-//! Measures the row helpers, then the work on whole pieces: the Rust's portable loops and the proved code, in one run, turn by turn, after
-//! a check that both give the same bytes. `bench/run` builds and starts it; `bench/run pieces` leaves the row helpers out.
+//! Measures the row helpers, the work on whole pieces and a stream: the Rust's portable loops and the proved code, in one run, turn by turn, after
+//! a check that both give the same bytes; then the proved code beside other libraries. `bench/run` builds and starts it, with the names of
+//! the parts to measure, or none for all.
+mod others;
 mod ours;
 mod pieces;
+mod stream;
+mod table;
 
 use rlnc::common::simd;
 use std::hint::black_box;
@@ -119,14 +123,21 @@ fn measure(work: &Work, len: usize, factors: &[u8]) -> (f64, f64) {
 }
 
 fn main() {
-    if std::env::args().nth(1).as_deref() != Some("pieces") {
-        rows();
+    let named: Vec<String> = std::env::args().skip(1).collect();
+    let parts: [(&str, fn()); 4] = [("rows", rows), ("pieces", pieces::run), ("stream", stream::run), ("others", others::run)];
+    if let Some(name) = named.iter().find(|name| parts.iter().all(|(part, _)| part != name)) {
+        eprintln!("bench: no part '{name}'; there are rows, pieces, stream, others");
+        std::process::exit(2);
     }
-    pieces::run();
+    for (part, run) in parts {
+        if named.is_empty() || named.iter().any(|name| name == part) {
+            run();
+        }
+    }
 }
 
 fn rows() {
-    println!("the same bytes in {} cases", compare());
+    println!("\nrows: the same bytes in {} cases", compare());
     let mut bytes = Bytes(0xd1342543de82ef95);
     let many: Vec<u8> = (0..251).map(|_| bytes.next() % 254 + 2).collect();
     let runs: [(&str, Work, &[u8]); 8] = [
@@ -139,20 +150,19 @@ fn rows() {
         (", factor 0", SCALE, &[0]),
         (", factor 1", SCALE, &[1]),
     ];
-    println!("{:<28}{:>6}{:>10}{:>11}{:>11}{:>13}{:>8}", "work", "bytes", "Rust ns", "proved ns", "Rust GB/s", "proved GB/s", "ratio");
+    table::head(&["work", "bytes", "Rust, ns", "proved, ns", "Rust, GB/s", "proved, GB/s", "ratio"]);
     for (factor, work, factors) in runs {
         for len in [512, 4352] {
             let (theirs, proved) = measure(&work, len, factors);
-            let speed = |seconds: f64| len as f64 / seconds / 1e9;
-            println!(
-                "{:<28}{len:>6}{:>10.1}{:>11.1}{:>11.2}{:>13.2}{:>8.2}",
+            table::line(&[
                 format!("{}{factor}", work.name),
-                theirs * 1e9,
-                proved * 1e9,
-                speed(theirs),
-                speed(proved),
-                theirs / proved
-            );
+                table::grouped(len),
+                format!("{:.1}", theirs * 1e9),
+                format!("{:.1}", proved * 1e9),
+                table::speed(len, theirs),
+                table::speed(len, proved),
+                format!("{:.2}", theirs / proved),
+            ]);
         }
     }
 }

@@ -1,6 +1,6 @@
 //! Measures coding, recoding, taking pieces and recovery: the Rust's Encoder, Recoder and Decoder and the proved ones, on the same data with
 //! the same vectors, after a check that both give the same answers and bytes.
-use crate::{Bytes, ours};
+use crate::{Bytes, ours, table};
 use rand::Script;
 use rlnc::RLNCError;
 use rlnc::full::{decoder::Decoder, encoder::Encoder, recoder::Recoder};
@@ -107,17 +107,26 @@ fn turns(count: usize, calls: usize, mut theirs: impl FnMut() -> Vec<f64>, mut p
     (per_call(&best.0), per_call(&best.1))
 }
 
+// The least ratio that is asked for.
+fn target(name: &str) -> &'static str {
+    match name {
+        "code" | "recode" => "6",
+        "take" => "3",
+        _ => "",
+    }
+}
+
 fn line(name: &str, c: &Coded, bytes: usize, best: (f64, f64)) {
-    let speed = |seconds: f64| bytes as f64 / seconds / 1e9;
-    println!(
-        "{name:<12}{:>13}{:>12.2}{:>12.2}{:>11.2}{:>13.2}{:>8.2}",
-        format!("{} x {}", c.k, c.len),
-        best.0 * 1e6,
-        best.1 * 1e6,
-        speed(best.0),
-        speed(best.1),
-        best.0 / best.1
-    );
+    table::line(&[
+        name.to_string(),
+        table::size(c.k, c.len),
+        format!("{:.2}", best.0 * 1e6),
+        format!("{:.2}", best.1 * 1e6),
+        table::speed(bytes, best.0),
+        table::speed(bytes, best.1),
+        format!("{:.2}", best.0 / best.1),
+        target(name).to_string(),
+    ]);
 }
 
 // So many turns, and calls in a lap.
@@ -189,8 +198,8 @@ pub fn run() {
     let small = Coded::new(32, 480, &mut bytes);
     let large = Coded::new(256, 4096, &mut bytes);
     cases += small.compare() + large.compare();
-    println!("the same answers and bytes in {cases} cases");
-    println!("{:<12}{:>13}{:>12}{:>12}{:>11}{:>13}{:>8}", "work", "pieces", "Rust us", "proved us", "Rust GB/s", "proved GB/s", "ratio");
+    println!("\npieces: the same answers and bytes in {} cases", table::grouped(cases));
+    table::head(&["work", "pieces", "Rust, us", "proved, us", "Rust, GB/s", "proved, GB/s", "ratio", "target"]);
     measure(&small, 1000, 16);
     measure(&large, 40, 1);
 }
