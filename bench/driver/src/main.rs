@@ -137,7 +137,7 @@ fn main() {
 }
 
 fn rows() {
-    println!("\nrows: the same bytes in {} cases", compare());
+    println!("\nrows: the same bytes in {} cases", table::grouped(compare()));
     let mut bytes = Bytes(0xd1342543de82ef95);
     let many: Vec<u8> = (0..251).map(|_| bytes.next() % 254 + 2).collect();
     let runs: [(&str, Work, &[u8]); 8] = [
@@ -154,13 +154,15 @@ fn rows() {
     for (factor, work, factors) in runs {
         for len in [512, 4352] {
             let (theirs, proved) = measure(&work, len, factors);
+            let idle = factors == [0] || (work.name == SCALE.name && factors == [1]);
+            let speed = |seconds| if idle { String::new() } else { table::speed(len, seconds) };
             table::line(&[
                 format!("{}{factor}", work.name),
                 table::grouped(len),
                 format!("{:.1}", theirs * 1e9),
                 format!("{:.1}", proved * 1e9),
-                table::speed(len, theirs),
-                table::speed(len, proved),
+                speed(theirs),
+                speed(proved),
                 format!("{:.2}", theirs / proved),
             ]);
         }

@@ -96,7 +96,7 @@ fn laps(calls: usize, lap: usize, mut call: impl FnMut(usize)) -> Vec<f64> {
 }
 
 // The seconds of a call for each of the two, which take turns: of each lap the best, so that what interrupts a lap does not count.
-fn turns(count: usize, calls: usize, mut theirs: impl FnMut() -> Vec<f64>, mut proved: impl FnMut() -> Vec<f64>) -> (f64, f64) {
+pub fn turns(count: usize, calls: usize, mut theirs: impl FnMut() -> Vec<f64>, mut proved: impl FnMut() -> Vec<f64>) -> (f64, f64) {
     let mut best = (theirs(), proved());
     let keep = |best: &mut [f64], now: Vec<f64>| best.iter_mut().zip(now).for_each(|(b, n)| *b = b.min(n));
     for _ in 1..count {
@@ -107,16 +107,9 @@ fn turns(count: usize, calls: usize, mut theirs: impl FnMut() -> Vec<f64>, mut p
     (per_call(&best.0), per_call(&best.1))
 }
 
-// The least ratio that is asked for.
-fn target(name: &str) -> &'static str {
-    match name {
-        "code" | "recode" => "6",
-        "take" => "3",
-        _ => "",
-    }
-}
-
-fn line(name: &str, c: &Coded, bytes: usize, best: (f64, f64)) {
+// A line of the table, with the least ratio that is asked for, if there is one.
+fn line(name: &str, c: &Coded, bytes: usize, best: (f64, f64), least: Option<f64>) {
+    let [ratio, target] = table::ratio(best.0, best.1, least.unwrap_or(0.0));
     table::line(&[
         name.to_string(),
         table::size(c.k, c.len),
@@ -124,8 +117,8 @@ fn line(name: &str, c: &Coded, bytes: usize, best: (f64, f64)) {
         format!("{:.2}", best.1 * 1e6),
         table::speed(bytes, best.0),
         table::speed(bytes, best.1),
-        format!("{:.2}", best.0 / best.1),
-        target(name).to_string(),
+        ratio,
+        if least.is_some() { target } else { String::new() },
     ]);
 }
 
@@ -139,7 +132,7 @@ fn measure(c: &Coded, count: usize, lap: usize) {
         || laps(16, lap, |i| c.theirs.code_with_buf(&mut Script::new(black_box(&c.vectors[i])), black_box(&mut out)).unwrap()),
         || laps(16, lap, |i| assert!(c.proved.code_with_buf(black_box(&c.block), black_box(&c.vectors[i]), black_box(&mut other)) == 0)),
     );
-    line("code", c, k * len, best);
+    line("code", c, k * len, best, Some(6.0));
 
     let (mut theirs, proved, pieces) = c.recoders();
     let best = turns(
@@ -148,7 +141,7 @@ fn measure(c: &Coded, count: usize, lap: usize) {
         || laps(16, lap, |i| theirs.recode_with_buf(&mut Script::new(black_box(&c.vectors[i])), black_box(&mut out)).unwrap()),
         || laps(16, lap, |i| assert!(proved.recode_with_buf(black_box(&pieces), black_box(&c.vectors[i]), black_box(&mut other)) == 0)),
     );
-    line("recode", c, k * c.full(), best);
+    line("recode", c, k * c.full(), best, Some(6.0));
 
     // A fresh decoder filled, per piece. A piece meets each row held twice, on its way in and back, and is a row itself: k rows on average.
     let mut elements = vec![0; k * c.full()];
@@ -174,7 +167,7 @@ fn measure(c: &Coded, count: usize, lap: usize) {
             })
         },
     );
-    line("take", c, k * c.full(), best);
+    line("take", c, k * c.full(), best, Some(3.0));
 
     let mut data = vec![0; k * len];
     let best = turns(
@@ -186,7 +179,7 @@ fn measure(c: &Coded, count: usize, lap: usize) {
         },
         || laps(1, 1, |_| assert!(filled.get_decoded_data(black_box(&elements), black_box(&mut data)).is_ok())),
     );
-    line("recover", c, k * len, best);
+    line("recover", c, k * len, best, None);
 }
 
 pub fn run() {

@@ -1,6 +1,6 @@
 //! Joins a stream of 65,535 pieces of 32 x 480 that never completes, since no piece has the last column: records read and pieces taken one after
 //! the other, by one loop over the Rust's Decoder and over the proved one, after a check that both give the same answers, counts and end.
-use crate::{Bytes, ours, table};
+use crate::{Bytes, ours, pieces, table};
 use rlnc::RLNCError;
 use rlnc::full::decoder::Decoder;
 use std::hint::black_box;
@@ -119,20 +119,25 @@ fn compare(stream: &[u8]) {
     println!("\nstream: the same answers and counts for {} pieces, and the same end: end {answer} 0 {repeats}", table::grouped(PIECES));
 }
 
-fn seconds(stream: &[u8], mut joiner: impl Joiner) -> f64 {
-    let start = Instant::now();
-    black_box(join(black_box(stream), &mut joiner, |_, _| ()));
-    start.elapsed().as_secs_f64()
+// The seconds of each lap of 64 pieces.
+fn laps(stream: &[u8], mut joiner: impl Joiner) -> Vec<f64> {
+    let (mut laps, mut pieces, mut start) = (Vec::new(), 0, Instant::now());
+    black_box(join(black_box(stream), &mut joiner, |_, _| {
+        pieces += 1;
+        if pieces % 64 == 0 {
+            laps.push(start.elapsed().as_secs_f64());
+            start = Instant::now();
+        }
+    }));
+    laps.push(start.elapsed().as_secs_f64());
+    laps
 }
 
 pub fn run() {
     let stream = made();
     compare(&stream);
-    let mut best = (f64::MAX, f64::MAX);
-    for _ in 0..7 {
-        best.0 = best.0.min(seconds(&stream, theirs()));
-        best.1 = best.1.min(seconds(&stream, proved()));
-    }
+    let best = pieces::turns(9, 1, || laps(&stream, theirs()), || laps(&stream, proved()));
+    let [ratio, target] = table::ratio(best.0, best.1, 3.0);
     let rate = |seconds: f64| format!("{:.1}", stream.len() as f64 / seconds / 1e6);
     table::head(&["work", "bytes", "Rust, s", "proved, s", "Rust, MB/s", "proved, MB/s", "ratio", "target"]);
     table::line(&[
@@ -142,7 +147,7 @@ pub fn run() {
         format!("{:.3}", best.1),
         rate(best.0),
         rate(best.1),
-        format!("{:.2}", best.0 / best.1),
-        "3".to_string(),
+        ratio,
+        target,
     ]);
 }

@@ -24,3 +24,9 @@ pub fn size(k: usize, len: usize) -> String {
 pub fn speed(bytes: usize, seconds: f64) -> String {
     format!("{:.2}", bytes as f64 / seconds / 1e9)
 }
+
+// The ratio of two times, and the least one that is asked for.
+pub fn ratio(theirs: f64, proved: f64, least: f64) -> [String; 2] {
+    let ratio = theirs / proved;
+    [format!("{ratio:.2}"), format!("{least}{}", if ratio < least { ", missed" } else { "" })]
+}
