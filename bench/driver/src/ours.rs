@@ -57,6 +57,7 @@ unsafe extern "C" {
         data_room: usize,
         data_len: &mut usize,
     ) -> u8;
+    fn rlnc_stream_read(so_far: u8, bytes: *const u8, bytes_len: usize, kind: &mut u8) -> u8;
 }
 
 // Safe: each entry is proved for slices of any length, and for any numbers.
@@ -188,5 +189,14 @@ impl Decoder {
             0 => Ok(n),
             refusal => Err(refusal),
         }
+    }
+}
+
+// The kind of the record at the front, where pieces of the kind so_far came before it, or none where that is 0.
+pub fn stream_read(so_far: u8, bytes: &[u8]) -> Result<u8, u8> {
+    let mut kind = 0;
+    match unsafe { rlnc_stream_read(so_far, bytes.as_ptr(), bytes.len(), &mut kind) } {
+        0 => Ok(kind),
+        refusal => Err(refusal),
     }
 }

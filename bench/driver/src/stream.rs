@@ -90,19 +90,21 @@ impl Joiner for Proved {
     }
 }
 
-// Reads records up to the end and takes their pieces; `each` sees every answer. Answers the number of answers 8 and the end's.
+// Reads records up to the end, by the library for both, and takes their pieces; `each` sees every answer. Answers the number of answers 8 and
+// the end's.
 fn join(stream: &[u8], joiner: &mut impl Joiner, mut each: impl FnMut(u8, (usize, usize))) -> (usize, u8) {
-    let (mut at, mut repeats) = (0, 0);
+    let (mut at, mut so_far, mut repeats) = (0, 0, 0);
     loop {
-        match stream[at] {
-            PIECE => {
+        match ours::stream_read(so_far, &stream[at..]) {
+            Ok(PIECE) => {
                 let answer = joiner.take(&stream[at + 1..at + 1 + K + LEN]);
                 repeats += usize::from(answer == 8);
                 each(answer, joiner.counts());
                 at += 1 + K + LEN;
+                so_far = PIECE;
             }
-            END => return (repeats, joiner.end()),
-            other => panic!("kind {other}"),
+            Ok(END) => return (repeats, joiner.end()),
+            other => panic!("{other:?}"),
         }
     }
 }
