@@ -234,7 +234,7 @@ impl DecoderMatrix {
         self
     }
 
-    // rows ≤ k ≤ cols, and k rows fit into n bytes: by a division, since k · cols may be no usize.
+    // rows ≤ k ≤ cols, and k rows fit into n bytes: where k · cols might be no usize, by a division, which takes longer than a product.
     fn sizes_fit(self, n: usize) -> bool
         ensures { λ r. ⌜ r ≡ sizesFit self n ⌝ }
     {
@@ -247,8 +247,8 @@ impl DecoderMatrix {
         if cols < k {
             return false;
         }
-        if cols == 0 {
-            return true;
+        if cols <= 65536 {
+            return k * cols <= n;
         }
         k <= n / cols
     }
