@@ -5,6 +5,7 @@ fn main() {
     println!("cargo:rerun-if-env-changed=RLNC_LIB_DIR");
     let folder = match std::env::var_os("RLNC_LIB_DIR") {
         Some(folder) => PathBuf::from(folder),
+        None if std::env::var("CARGO_CFG_TARGET_ARCH").as_deref() != Ok("x86_64") => panic!("`rt staticlib rlnc` makes an archive for x86-64 alone"),
         None => PathBuf::from(std::env::var_os("CARGO_MANIFEST_DIR").expect("cargo sets it")).join("../target/staticlib"),
     };
     let library = folder.join("librlnc.a");
