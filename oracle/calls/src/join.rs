@@ -1,0 +1,104 @@
+//! A piece stream read by 01's rules, and its listing with the answers of the Rust's decoder.
+use crate::drawn::damage;
+use crate::drive::number;
+use crate::paper;
+use crate::parts::{Drawn, piece};
+use rlnc::full::decoder::Decoder;
+use std::io::Write;
+
+/// The sizes of a kind's pieces.
+fn geometry(kind: u8) -> Option<(usize, usize)> {
+    match kind {
+        0x11 => Some((3, 2)),
+        0x12 => Some((16, 240)),
+        0x13 => Some((32, 480)),
+        _ => None,
+    }
+}
+
+/// Why a stream stops, and the offset of the record.
+struct Stop(u8, usize);
+
+struct Joined {
+    decoder: Option<(u8, Decoder)>,
+    pieces: usize,
+    repeats: usize,
+}
+
+impl Joined {
+    fn piece(&mut self, kind: u8, body: &[u8], out: &mut impl Write) {
+        let (k, len) = geometry(kind).expect("a listed kind");
+        let (_, decoder) = self.decoder.get_or_insert_with(|| (kind, Decoder::new(len, k).expect("sizes within the limits")));
+        let spent = !decoder.is_already_decoded() && decoder.get_received_piece_count() == paper::TAKEN_LIMIT;
+        let answer = if spent { paper::TOO_MANY_TAKEN } else { decoder.decode(body).map_or_else(number, |()| paper::OK) };
+        self.pieces += 1;
+        self.repeats += usize::from(answer == 8);
+        let (rows, taken) = (decoder.get_useful_piece_count(), decoder.get_received_piece_count());
+        writeln!(out, "{} {answer} {rows} {taken}", self.pieces).expect("a line is written");
+    }
+
+    fn finish(self, out: &mut impl Write) {
+        let recovered = self.decoder.map_or(Err(paper::NOT_ALL_PIECES_RECEIVED_YET), |(_, decoder)| decoder.get_decoded_data().map_err(number));
+        match recovered {
+            Err(answer) => writeln!(out, "end {answer} 0 {}", self.repeats),
+            Ok(data) => writeln!(out, "end 0 {} {}\n{}", data.len(), self.repeats, crate::script::hex(&data)),
+        }
+        .expect("a line is written");
+    }
+}
+
+/// The records up to the end record. An unlisted kind is told before a second geometry, and that before a short body.
+fn records(stream: &[u8], joined: &mut Joined, out: &mut impl Write) -> Result<(), Stop> {
+    let mut at = 0;
+    loop {
+        let kind = *stream.get(at).ok_or(Stop(25, at))?;
+        if kind == 0x01 {
+            return Ok(());
+        }
+        let (k, len) = geometry(kind).ok_or(Stop(24, at))?;
+        if joined.decoder.as_ref().is_some_and(|(first, _)| *first != kind) {
+            return Err(Stop(26, at));
+        }
+        let body = stream.get(at + 1..at + 1 + k + len).ok_or(Stop(25, at))?;
+        joined.piece(kind, body, out);
+        at += 1 + k + len;
+    }
+}
+
+pub fn run(stream: &[u8], out: &mut impl Write) {
+    writeln!(out, "n answer rows taken").expect("a line is written");
+    let mut joined = Joined { decoder: None, pieces: 0, repeats: 0 };
+    match records(stream, &mut joined, out) {
+        Ok(()) => joined.finish(out),
+        Err(Stop(answer, at)) => writeln!(out, "stop {answer} {at}").expect("a line is written"),
+    }
+}
+
+/// Damaged copies of good streams: pieces lost, repeated, exchanged or of other bytes, then bytes lost, added or changed.
+pub fn streams(count: usize, seed: u64, folder: &str) {
+    let drawn = Drawn::new(seed);
+    for i in 0..count {
+        let kind = drawn.of(&[0x11, 0x11, 0x11, 0x11, 0x12, 0x13]);
+        let (k, len) = geometry(kind).expect("a listed kind");
+        let mut block = drawn.bytes(k * len);
+        let end = drawn.within(1, k * len - 1);
+        block[end..].fill(0);
+        block[end] = 0x81;
+        let mut pieces: Vec<Vec<u8>> = (0..k + drawn.below(6)).map(|_| piece(&drawn.bytes(k), &block)).collect();
+        if !drawn.one_in(8) {
+            damage(&drawn, &mut pieces);
+        }
+        let mut stream: Vec<u8> = pieces.iter().flat_map(|piece| [&[kind], &piece[..]].concat()).collect();
+        stream.push(0x01);
+        for _ in 0..drawn.below(3) {
+            let at = drawn.below(stream.len());
+            match drawn.below(4) {
+                0 => drop(stream.remove(at)),
+                1 => stream.insert(at, drawn.byte()),
+                2 => stream[at] = drawn.of(&[0x01, 0x11, 0x12, 0x13, 0x14, drawn.byte()]),
+                _ => stream.truncate(at + 1),
+            }
+        }
+        std::fs::write(format!("{folder}/{i}.set"), stream).expect("a stream is written");
+    }
+}
