@@ -1,4 +1,4 @@
-// Calls of the decoder, which is kept beside its matrix.
+// Calls of the decoder, which is kept beside its matrix, and of its stored form.
 use super::Call;
 use super::say;
 use decoder::Complete;
@@ -9,6 +9,8 @@ use decoder::Recovered;
 use decoder::Taken;
 use decoder::UsefulPieceCount;
 use field::Field;
+use stored::Loaded;
+use stored::Saved;
 
 pub(crate) fn call(
     c: Call,
@@ -46,10 +48,15 @@ fn asked(c: Call, d: Decoder, elements: &mut [u8], a: &[u8], b: &mut [u8]) -> De
             }
         }
         0x33 => taken(d, d.decode(Field::Fips197, elements, a)),
-        _ => {
+        0x34 => {
             recovered(d.get_decoded_data(elements, b));
             d
         }
+        0x35 => {
+            saved(stored::save(d, elements, b));
+            d
+        }
+        _ => loaded(d, stored::load(a, elements)),
     }
 }
 
@@ -92,6 +99,29 @@ fn recovered(r: Recovered) {
             say::number(n);
         }
         Recovered::Refused(a) => say::answer(a),
+    }
+}
+
+fn saved(s: Saved) {
+    match s {
+        Saved::Bytes(n) => {
+            say::number(0);
+            say::number(n);
+        }
+        Saved::Refused(a) => say::answer(a),
+    }
+}
+
+fn loaded(before: Decoder, l: Loaded) -> Decoder {
+    match l {
+        Loaded::Of(d) => {
+            say::number(0);
+            d
+        }
+        Loaded::Refused(a) => {
+            say::answer(a);
+            before
+        }
     }
 }
 

@@ -3,6 +3,7 @@
 use crate::drive::{answer, bytes, counts, hold, loaded, matrix_of, number};
 use crate::paper;
 use crate::script::{Call, MATRIX_ROOM, op};
+use crate::stored;
 use rlnc::RLNCError;
 use rlnc::full::decoder::Decoder;
 
@@ -40,7 +41,9 @@ impl Decoding {
                 paper::OK.to_string()
             }
             op::DECODE => self.decode(lent, &a).to_string(),
-            _ => self.recover(lent, &mut b),
+            op::RECOVER => self.recover(lent, &mut b),
+            op::SAVE => self.save(lent, &mut b),
+            _ => self.load(lent, &a).to_string(),
         };
         let sound = paper::decoder_sound(self.k, self.len, self.rows, self.taken);
         let left = self.k.saturating_sub(self.rows);
@@ -143,5 +146,30 @@ impl Decoding {
             assert!(decoder.decode(&piece).is_ok());
         }
         decoder
+    }
+
+    fn save(&self, lent: usize, out: &mut [u8]) -> String {
+        if self.bad(lent) {
+            return paper::BAD_STATE.to_string();
+        }
+        let held = &self.elements[..self.rows * (self.k + self.len)];
+        match stored::form((self.k, self.len), self.rows, self.taken, held, out.len()) {
+            Err(answer) => answer.to_string(),
+            Ok(form) => {
+                out[..form.len()].copy_from_slice(&form);
+                format!("0 {}", form.len())
+            }
+        }
+    }
+
+    fn load(&mut self, lent: usize, form: &[u8]) -> u8 {
+        match stored::read(form, lent) {
+            Err(answer) => answer,
+            Ok(((k, len), rows, taken, matrix)) => {
+                self.elements[..matrix.len()].copy_from_slice(matrix);
+                (self.k, self.len, self.rows, self.taken, self.made) = (k, len, rows, taken, None);
+                paper::OK
+            }
+        }
     }
 }

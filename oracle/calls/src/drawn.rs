@@ -1,4 +1,5 @@
 //! Cases drawn from a seed: lengths around each boundary, and damaged copies of good streams.
+use crate::forms;
 use crate::matrices;
 use crate::odd::history;
 use crate::parts::*;
@@ -184,7 +185,8 @@ pub fn case(drawn: &Drawn) -> Case {
         9..=11 => chain(drawn),
         12..=14 => matrices::drawn(drawn),
         15 | 16 => encoding(drawn),
-        17 | 18 => recoding(drawn),
+        17 => recoding(drawn),
+        18 => forms::drawn(drawn),
         _ => rows(drawn),
     }
 }

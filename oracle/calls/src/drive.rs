@@ -1,5 +1,5 @@
 //! Drives the Rust with the calls of a script, and prints a line for each: its ordinal, the answer, the counts, every byte of the buffers
-//! lent. What 01 alone decides comes from `paper`; all else is the Rust's own answer.
+//! lent. What the paper alone decides comes from `paper`; all else is the Rust's own answer.
 use crate::decoding::Decoding;
 use crate::encoding::Encoding;
 use crate::paper;
@@ -10,7 +10,7 @@ use rlnc::common::gf256::Gf256;
 use rlnc::common::simd;
 use rlnc::full::decoder_matrix::DecoderMatrix;
 
-/// 01's number for each of the Rust's refusals.
+/// The paper's number for each of the Rust's refusals.
 pub fn number(error: RLNCError) -> u8 {
     match error {
         RLNCError::CodingVectorLengthMismatch => 1,

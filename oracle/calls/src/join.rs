@@ -1,4 +1,4 @@
-//! A piece stream read by 01's rules, and its listing with the answers of the Rust's decoder.
+//! A piece stream read by the paper's rules, and its listing with the answers of the Rust's decoder.
 use crate::drawn::damage;
 use crate::drive::number;
 use crate::paper;
@@ -74,31 +74,49 @@ pub fn run(stream: &[u8], out: &mut impl Write) {
     }
 }
 
-/// Damaged copies of good streams: pieces lost, repeated, exchanged or of other bytes, then bytes lost, added or changed.
+/// A piece of another geometry among the records.
+fn stranger(drawn: &Drawn) -> Vec<u8> {
+    let kind = drawn.of(&[0x11, 0x12, 0x13]);
+    let (k, len) = geometry(kind).expect("a listed kind");
+    [vec![kind], drawn.bytes(k + len)].concat()
+}
+
+/// A good stream with pieces lost, repeated, exchanged or of other bytes; now and then records of other lengths or kinds; now and then
+/// bytes lost, added or changed.
+fn damaged(drawn: &Drawn) -> Vec<u8> {
+    let kind = drawn.of(&[0x11, 0x11, 0x11, 0x11, 0x12, 0x13]);
+    let (k, len) = geometry(kind).expect("a listed kind");
+    let mut block = drawn.bytes(k * len);
+    let end = drawn.within(1, k * len - 1);
+    block[end..].fill(0);
+    block[end] = 0x81;
+    let mut pieces: Vec<Vec<u8>> = (0..k + drawn.below(6)).map(|_| piece(&drawn.bytes(k), &block)).collect();
+    damage(drawn, &mut pieces);
+    let framed = !drawn.one_in(5);
+    let mut records: Vec<Vec<u8>> = pieces.into_iter().map(|piece| [vec![kind], piece].concat()).collect();
+    if framed {
+        records.iter_mut().for_each(|record| record.resize(1 + k + len, 0));
+    }
+    if drawn.one_in(8) {
+        let at = drawn.below(records.len() + 1);
+        records.insert(at, stranger(drawn));
+    }
+    let mut stream = [records.concat(), vec![0x01]].concat();
+    for _ in 0..drawn.of(&[0, 0, 0, 1, 2]) {
+        let at = drawn.below(stream.len());
+        match drawn.below(4) {
+            0 if stream.len() > 1 => drop(stream.remove(at)),
+            1 => stream.insert(at, drawn.byte()),
+            2 => stream[at] = drawn.of(&[0x01, 0x11, 0x12, 0x13, 0x14, drawn.byte()]),
+            _ => stream.truncate(at + 1),
+        }
+    }
+    stream
+}
+
 pub fn streams(count: usize, seed: u64, folder: &str) {
     let drawn = Drawn::new(seed);
     for i in 0..count {
-        let kind = drawn.of(&[0x11, 0x11, 0x11, 0x11, 0x12, 0x13]);
-        let (k, len) = geometry(kind).expect("a listed kind");
-        let mut block = drawn.bytes(k * len);
-        let end = drawn.within(1, k * len - 1);
-        block[end..].fill(0);
-        block[end] = 0x81;
-        let mut pieces: Vec<Vec<u8>> = (0..k + drawn.below(6)).map(|_| piece(&drawn.bytes(k), &block)).collect();
-        if !drawn.one_in(8) {
-            damage(&drawn, &mut pieces);
-        }
-        let mut stream: Vec<u8> = pieces.iter().flat_map(|piece| [&[kind], &piece[..]].concat()).collect();
-        stream.push(0x01);
-        for _ in 0..drawn.below(3) {
-            let at = drawn.below(stream.len());
-            match drawn.below(4) {
-                0 => drop(stream.remove(at)),
-                1 => stream.insert(at, drawn.byte()),
-                2 => stream[at] = drawn.of(&[0x01, 0x11, 0x12, 0x13, 0x14, drawn.byte()]),
-                _ => stream.truncate(at + 1),
-            }
-        }
-        std::fs::write(format!("{folder}/{i}.set"), stream).expect("a stream is written");
+        std::fs::write(format!("{folder}/{i}.set"), damaged(&drawn)).expect("a stream is written");
     }
 }

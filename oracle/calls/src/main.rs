@@ -5,6 +5,7 @@ mod differ;
 mod drawn;
 mod drive;
 mod encoding;
+mod forms;
 mod join;
 mod limits;
 mod matrices;
@@ -13,6 +14,7 @@ mod paper;
 mod parts;
 mod recoding;
 mod script;
+mod stored;
 
 use parts::{Case, Drawn};
 use std::io::{BufWriter, Read, Write};

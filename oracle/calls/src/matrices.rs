@@ -65,7 +65,8 @@ fn first_row_below(cases: &mut Vec<Case>) {
         [[0, 0, 1], [0, 0, 1], [0, 1, 0]],
     ];
     three.iter().for_each(|rows| cases.push(reduced(3, 5, &rows.map(|row| row.to_vec()))));
-    let four: [[[u8; 4]; 4]; 2] = [[[0, 1, 0, 0], [0, 0, 1, 0], [2, 0, 0, 1], [3, 0, 1, 0]], [[1, 2, 3, 4], [2, 4, 6, 9], [3, 6, 5, 1], [1, 2, 3, 5]]];
+    let four: [[[u8; 4]; 4]; 2] =
+        [[[0, 1, 0, 0], [0, 0, 1, 0], [2, 0, 0, 1], [3, 0, 1, 0]], [[1, 2, 3, 4], [2, 4, 6, 9], [3, 6, 5, 1], [1, 2, 3, 5]]];
     four.iter().for_each(|rows| cases.push(reduced(4, 6, &rows.map(|row| row.to_vec()))));
     cases.push(reduced(2, 3, &[vec![3, 1, 1], vec![0, 1, 2]]));
 }
@@ -87,7 +88,9 @@ fn multiples(cases: &mut Vec<Case>, drawn: &Drawn) {
 
 /// Records that fit the buffer and records that do not, for each of the three entries.
 fn sizes(cases: &mut Vec<Case>, drawn: &Drawn) {
-    for (k, rows, cols) in [(0, 0, 0), (0, 1, 0), (2, 0, 3), (2, 1, 3), (2, 2, 3), (2, 3, 3), (3, 1, 2), (2, 1, 2), (2, 4294967295, 3), (4294967295, 1, 4294967295)] {
+    for (k, rows, cols) in
+        [(0, 0, 0), (0, 1, 0), (2, 0, 3), (2, 1, 3), (2, 2, 3), (2, 3, 3), (3, 1, 2), (2, 1, 2), (2, 4294967295, 3), (4294967295, 1, 4294967295)]
+    {
         for room in [0, 5, 6, 8] {
             let buffer = drawn.bytes(room);
             let mut case = alone(plain(op::RREF, [k, rows, cols, 0, 0], &buffer, &[]));

@@ -16,6 +16,7 @@ pub fn cases() -> Vec<Case> {
     vectors(&mut cases, &drawn);
     paddings(&mut cases);
     crate::limits::cases(&mut cases);
+    crate::forms::cases(&mut cases);
     crate::matrices::cases(&mut cases, &drawn);
     cases
 }
@@ -23,28 +24,29 @@ pub fn cases() -> Vec<Case> {
 /// The row helpers: each length around the sizes that loops are cut into, and unequal ones.
 fn rows(cases: &mut Vec<Case>, drawn: &Drawn) {
     for len in (0..=9).chain([15, 16, 17, 31, 32, 33, 63, 64, 65, 127, 128, 129, 257]) {
-        let mut case = begin();
         for scalar in [0, 1, 2, 3, M as usize, 255] {
             let (a, b) = (drawn.bytes(len), drawn.bytes(len));
-            case.push(plain(op::SCALE, [scalar, 0, 0, 0, 0], &a, &[]));
+            let mut case = alone(plain(op::SCALE, [scalar, 0, 0, 0, 0], &a, &[]));
             case.push(plain(op::ADD, [0; 5], &a, &b));
             case.push(plain(op::MULTIPLY_ADD, [scalar, 0, 0, 0, 0], &a, &b));
             case.push(plain(op::PART, [len + 1, 0, len, scalar, 0], &drawn.bytes(2 * len + 2), &[]));
             case.push(plain(op::PART, [0, len, len, scalar, 0], &drawn.bytes(2 * len), &[]));
+            cases.push(case);
         }
-        for (longer, shorter) in [(len + 1, len), (len, len + 1)] {
-            let (a, b) = (drawn.bytes(longer), drawn.bytes(shorter));
-            case.push(plain(op::ADD, [0; 5], &a, &b));
+        for (a, b) in [(len + 1, len), (len, len + 1)] {
+            let (a, b) = (drawn.bytes(a), drawn.bytes(b));
+            let mut case = alone(plain(op::ADD, [0; 5], &a, &b));
             (0..3).for_each(|scalar| case.push(plain(op::MULTIPLY_ADD, [scalar, 0, 0, 0, 0], &a, &b)));
+            cases.push(case);
         }
-        // one byte in common, and one byte outside
+        // one byte in common, or one byte outside
         if len > 0 {
-            case.push(plain(op::PART, [0, len - 1, len, 3, 0], &drawn.bytes(2 * len), &[]));
-            case.push(plain(op::PART, [len - 1, 0, len, 3, 0], &drawn.bytes(2 * len), &[]));
-            case.push(plain(op::PART, [0, len, len, 3, 0], &drawn.bytes(2 * len - 1), &[]));
-            case.push(plain(op::PART, [len, 0, len, 3, 0], &drawn.bytes(2 * len - 1), &[]));
+            let mut case = begin();
+            for (from, to, room) in [(0, len - 1, 2 * len), (len - 1, 0, 2 * len), (0, len, 2 * len - 1), (len, 0, 2 * len - 1)] {
+                case.push(plain(op::PART, [from, to, len, 3, 0], &drawn.bytes(room), &[]));
+            }
+            cases.push(case);
         }
-        cases.push(case);
     }
 }
 
@@ -129,8 +131,24 @@ fn vectors(cases: &mut Vec<Case>, drawn: &Drawn) {
 fn paddings(cases: &mut Vec<Case>) {
     let a = 0x61;
     let blocks: [&[u8]; 18] = [
-        &[M, 0], &[a, M, 0, 0], &[a, M, M, 0], &[a, a], &[a, M, a, 0], &[0, 0], &[0, M], &[M, M], &[M, 0, 0, 0, 0, 0], &[a, M],
-        &[M, a, M, 0], &[M, a, 0, 0], &[0, 0, 0, M], &[M, M, M, M], &[a, M, 0, 0, 0, 0], &[a, 0, M, 0, 0, 1], &[M], &[a],
+        &[M, 0],
+        &[a, M, 0, 0],
+        &[a, M, M, 0],
+        &[a, a],
+        &[a, M, a, 0],
+        &[0, 0],
+        &[0, M],
+        &[M, M],
+        &[M, 0, 0, 0, 0, 0],
+        &[a, M],
+        &[M, a, M, 0],
+        &[M, a, 0, 0],
+        &[0, 0, 0, M],
+        &[M, M, M, M],
+        &[a, M, 0, 0, 0, 0],
+        &[a, 0, M, 0, 0, 1],
+        &[M],
+        &[a],
     ];
     for block in blocks {
         for k in [1, 2, 3, 4, 6].into_iter().filter(|k| block.len() % k == 0) {

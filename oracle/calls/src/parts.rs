@@ -129,6 +129,15 @@ pub fn recover(lent: usize, out: &[u8]) -> Call {
     with(op::RECOVER, lent, &[], out)
 }
 
+pub fn save(lent: usize, out: &[u8]) -> Call {
+    with(op::SAVE, lent, &[], out)
+}
+
+/// A form, and the matrix that it is loaded into.
+pub fn load(form: &[u8], elements: &[u8]) -> Call {
+    on(op::LOAD, [0; 5], elements, form)
+}
+
 pub fn unit(k: usize, i: usize) -> Vec<u8> {
     (0..k).map(|j| u8::from(i == j)).collect()
 }

@@ -22,6 +22,8 @@ pub mod op {
     pub const SET_DECODER: u8 = 0x32;
     pub const DECODE: u8 = 0x33;
     pub const RECOVER: u8 = 0x34;
+    pub const SAVE: u8 = 0x35;
+    pub const LOAD: u8 = 0x36;
     pub const BEGIN: u8 = 0x40;
 }
 
@@ -77,6 +79,8 @@ impl Call {
             op::SET_DECODER => format!("decoder record k {p}, L {q}, rows {r}, taken {s}"),
             op::DECODE => "take piece a".into(),
             op::RECOVER => "recover into b".into(),
+            op::SAVE => "save the decoder into b".into(),
+            op::LOAD => "load the decoder of form a".into(),
             _ => "a case begins".into(),
         };
         let bytes = |name: &str, part: &[u8]| if part.is_empty() { String::new() } else { format!("\n  {name} {}", hex(part)) };
