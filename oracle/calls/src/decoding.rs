@@ -53,20 +53,19 @@ impl Decoding {
     }
 
     fn new_one(&mut self, lent: usize, len: usize, k: usize) -> u8 {
-        if len != 0 && k != 0 && paper::over_limit(k, len) {
-            return paper::SIZE_OVER_LIMIT;
+        let refusal = paper::new_decoder(len, k, lent);
+        if refusal != paper::OK {
+            return refusal;
         }
-        let decoder = match Decoder::new(len, k) {
-            Ok(decoder) => decoder,
-            Err(error) => return number(error),
-        };
-        if lent < k * (k + len) {
-            return paper::NO_ROOM;
+        match Decoder::new(len, k) {
+            Err(error) => number(error),
+            Ok(decoder) => {
+                self.made = Some(decoder);
+                (self.k, self.len) = (k, len);
+                self.keep();
+                paper::OK
+            }
         }
-        self.made = Some(decoder);
-        (self.k, self.len) = (k, len);
-        self.keep();
-        paper::OK
     }
 
     // The counts and the held rows of the Rust's decoder. Its matrix is private, and its Debug prints it.
@@ -84,16 +83,16 @@ impl Decoding {
     }
 
     fn bad(&self, lent: usize) -> bool {
-        !paper::decoder_sound(self.k, self.len, self.rows, self.taken) || lent < self.k * (self.k + self.len)
+        paper::bad_decoder(self.k, self.len, self.rows, self.taken, lent)
     }
 
     fn decode(&mut self, lent: usize, piece: &[u8]) -> u8 {
         if self.bad(lent) {
             return paper::BAD_STATE;
         }
-        let full = self.k + self.len;
-        if self.taken == paper::TAKEN_LIMIT && self.rows != self.k && piece.len() == full {
-            return paper::TOO_MANY_TAKEN;
+        let refusal = paper::take(self.k, self.len, self.rows, self.taken, piece.len());
+        if refusal != paper::OK {
+            return refusal;
         }
         let Some(decoder) = &mut self.made else { return self.decode_loaded(piece) };
         let said = answer(decoder.decode(piece));
@@ -123,9 +122,9 @@ impl Decoding {
         if self.bad(lent) {
             return paper::BAD_STATE.to_string();
         }
-        let complete = self.rows == self.k;
-        if complete && out.len() < self.k * self.len {
-            return paper::NO_ROOM.to_string();
+        let refusal = paper::recover(self.k, self.len, self.rows, out.len());
+        if refusal != paper::OK {
+            return refusal.to_string();
         }
         match self.made.clone().unwrap_or_else(|| self.with_these_payloads()).get_decoded_data() {
             Err(error) => number(error).to_string(),

@@ -80,14 +80,14 @@ impl Driver {
 fn plain(call: Call) -> String {
     let Call { op, n: [p, q, r, s, t], mut a, b, .. } = call;
     let low = |n: usize| (n % 256) as u8;
-    let unequal = a.len() != b.len();
+    let unequal = paper::rows(a.len(), b.len());
     let said = match op {
         op::FIELD => field(low(p)),
         op::SCALE => {
             simd::gf256_inplace_mul_vec_by_scalar(&mut a, low(p));
             " 0".into()
         }
-        op::ADD | op::MULTIPLY_ADD if unequal => format!(" {}", paper::INVALID_PIECE_LENGTH),
+        op::ADD | op::MULTIPLY_ADD if unequal != paper::OK => format!(" {unequal}"),
         op::ADD => {
             simd::gf256_inplace_add_vectors(&mut a, &b);
             " 0".into()
@@ -114,8 +114,9 @@ fn field(x: u8) -> String {
 
 /// The Rust has rows apart only, so the part that is added is copied out.
 fn part(buffer: &mut [u8], from: usize, to: usize, len: usize, scalar: u8) -> u8 {
-    if !paper::lie_apart(from, to, len, buffer.len()) {
-        return paper::BAD_STATE;
+    let refusal = paper::parts(from, to, len, buffer.len());
+    if refusal != paper::OK {
+        return refusal;
     }
     let added = buffer[from..from + len].to_vec();
     simd::gf256_mul_vec_by_scalar_then_add_into_vec(&mut buffer[to..to + len], &added, scalar);
@@ -132,7 +133,7 @@ pub fn matrix_of(elements: &[u8], k: usize, rows: usize, cols: usize) -> Decoder
 }
 
 fn add_row(elements: &mut [u8], row: &[u8], k: usize, rows: usize, cols: usize) -> String {
-    if !paper::matrix_sound(k, rows, cols, elements.len()) || k <= rows {
+    if paper::matrix(k, rows + 1, cols, elements.len()) != paper::OK {
         return format!(" {}", paper::BAD_STATE);
     }
     let mut matrix = matrix_of(elements, k, rows, cols);
@@ -146,7 +147,7 @@ fn add_row(elements: &mut [u8], row: &[u8], k: usize, rows: usize, cols: usize) 
 }
 
 fn swap_rows(elements: &mut [u8], k: usize, rows: usize, cols: usize, i: usize, j: usize) -> u8 {
-    if !paper::matrix_sound(k, rows, cols, elements.len()) || rows <= i || rows <= j {
+    if paper::matrix(k, rows, cols, elements.len()) != paper::OK || rows <= i || rows <= j {
         return paper::BAD_STATE;
     }
     let mut matrix = matrix_of(elements, k, rows, cols);
@@ -157,7 +158,7 @@ fn swap_rows(elements: &mut [u8], k: usize, rows: usize, cols: usize, i: usize, 
 }
 
 fn rref(elements: &mut [u8], k: usize, rows: usize, cols: usize) -> String {
-    if !paper::matrix_sound(k, rows, cols, elements.len()) {
+    if paper::matrix(k, rows, cols, elements.len()) != paper::OK {
         return format!(" {}", paper::BAD_STATE);
     }
     let mut matrix = matrix_of(elements, k, rows, cols);

@@ -54,18 +54,16 @@ impl Encoding {
     }
 
     fn padded(&mut self, data: &[u8], lent: usize, k: usize) -> u8 {
-        if !data.is_empty() && k != 0 && paper::over_limit(k, (data.len() + 1).div_ceil(k)) {
-            return paper::SIZE_OVER_LIMIT;
+        let refusal = paper::padded(data.len(), k, lent);
+        if refusal != paper::OK {
+            return refusal;
         }
         let encoder = match Encoder::new(data.to_vec(), k) {
             Ok(encoder) => encoder,
             Err(error) => return number(error),
         };
-        let len = encoder.get_piece_byte_len();
-        if lent < k * len {
-            return paper::NO_ROOM;
-        }
         // its block cannot be read, so each piece is coded with its unit vector
+        let len = encoder.get_piece_byte_len();
         for i in 0..k {
             let unit: Vec<u8> = (0..k).map(|j| u8::from(i == j)).collect();
             assert!(bridge::code_with_coding_vector(&encoder, &unit, &mut self.block[i * len..(i + 1) * len]).is_ok());
@@ -74,33 +72,33 @@ impl Encoding {
     }
 
     fn unpadded(&mut self, lent: usize, k: usize) -> u8 {
+        let refusal = paper::unpadded(lent, k);
+        if refusal != paper::OK {
+            return refusal;
+        }
         match bridge::without_padding(self.block[..lent].to_vec(), k) {
             Err(error) => number(error),
-            Ok(encoder) if paper::over_limit(k, encoder.get_piece_byte_len()) => paper::SIZE_OVER_LIMIT,
             Ok(encoder) => self.keep(encoder),
         }
     }
 
-    // The Rust's encoder of the lent block, or none where that is a bad state.
-    fn encoder(&self, lent: usize) -> Option<Encoder> {
-        if !paper::encoder_sound(self.k, self.len) || lent < self.k * self.len {
-            return None;
-        }
+    // The Rust's encoder of the kept block.
+    fn encoder(&self) -> Encoder {
         let block = || bridge::without_padding(self.block[..self.k * self.len].to_vec(), self.k).expect("sizes within the limits");
-        Some(self.made.clone().unwrap_or_else(block))
+        self.made.clone().unwrap_or_else(block)
     }
 
     fn payload(&self, lent: usize, vector: &[u8], out: &mut [u8]) -> u8 {
-        let Some(encoder) = self.encoder(lent) else { return paper::BAD_STATE };
-        answer(bridge::code_with_coding_vector(&encoder, vector, out))
+        match paper::payload(self.k, self.len, lent) {
+            paper::OK => answer(bridge::code_with_coding_vector(&self.encoder(), vector, out)),
+            refusal => refusal,
+        }
     }
 
-    // The Rust draws as many numbers as it wants; here the caller's vector may be of another length.
     fn whole(&self, lent: usize, vector: &[u8], out: &mut [u8]) -> u8 {
-        let Some(encoder) = self.encoder(lent) else { return paper::BAD_STATE };
-        if out.len() == encoder.get_full_coded_piece_byte_len() && vector.len() != self.k {
-            return paper::CODING_VECTOR_LENGTH_MISMATCH;
+        match paper::whole(self.k, self.len, lent, vector.len(), out.len()) {
+            paper::OK => answer(self.encoder().code_with_buf(&mut Script::new(vector), out)),
+            refusal => refusal,
         }
-        answer(encoder.code_with_buf(&mut Script::new(vector), out))
     }
 }

@@ -24,6 +24,9 @@ pub fn cases(cases: &mut Vec<Case>) {
         [18, 19, 20].iter().for_each(|n| case.push(save(room, &vec![FILL; *n])));
         cases.push(case);
     }
+    // 25 before 21, and 21 before 22
+    cases.push(alone(load(&held[..18], &[FILL; 14])));
+    cases.push(alone(load(&form(4, 4, &[]), &[FILL; 14])));
     for (rows, taken) in [(0, 0), (1, 0), (1, 1), (3, 2), (3, 3), (4, 4), (3, 65535), (255, 65535)] {
         for matrix in [vec![], vec![9; 5], vec![9; 6], vec![9; 15]] {
             let mut case = alone(load(&form(rows, taken, &matrix), &[FILL; 17]));
@@ -33,8 +36,9 @@ pub fn cases(cases: &mut Vec<Case>) {
             cases.push(case);
         }
     }
-    // a size that is not listed
+    // a size that is not listed: 22, 24, 21
     let mut case = alone(new_decoder(1, 3, &[FILL; 12]));
+    case.push(save(12, &[]));
     case.push(save(12, &[FILL; 20]));
     case.push(save(11, &[FILL; 20]));
     cases.push(case);

@@ -26,6 +26,12 @@ pub fn cases(cases: &mut Vec<Case>, drawn: &Drawn) {
     first_row_below(cases);
     multiples(cases, drawn);
     sizes(cases, drawn);
+    // the larger sizes of the streams, all rows held, and two of the same coefficients
+    for (k, cols) in [(16, 256), (32, 512)] {
+        let mut rows: Vec<Vec<u8>> = (0..k).map(|_| drawn.bytes(cols)).collect();
+        rows[k / 2] = [rows[1][..k].to_vec(), rows[k / 2][k..].to_vec()].concat();
+        cases.push(reduced(k, cols, &rows));
+    }
 }
 
 fn units_and_zeros(cases: &mut Vec<Case>) {
