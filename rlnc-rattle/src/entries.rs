@@ -1,7 +1,7 @@
 //! The entries of the static library, as `include/rlnc.h` declares them. Each is proved for all numbers, lengths and bytes; what it assumes
 //! of pointers, a Rust slice and a Rust reference keep: that is why calling them with those is safe.
 
-extern "C" {
+unsafe extern "C" {
     pub fn rlnc_gf256_mul(a: u8, b: u8) -> u8;
     pub fn rlnc_gf256_inv(a: u8, inverse: &mut u8) -> bool;
     pub fn rlnc_gf256_div(a: u8, b: u8, quotient: &mut u8) -> bool;

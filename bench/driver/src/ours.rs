@@ -1,64 +1,11 @@
-//! The entries of the crate `rlnc`. A slice is handed over as two parameters, its address and its length, and a record as its numbers. (A
-//! slice as one parameter of an `extern "C"` function is not the same: where one register is left, Rust puts both words on the stack.)
+//! The entries of the crate `rlnc`, declared where the crate for clients declares them. A slice is handed over as two parameters, its address
+//! and its length, and a record as its numbers. (A slice as one parameter of an `extern "C"` function is not the same: where one register is
+//! left, Rust puts both words on the stack.)
+#[allow(dead_code)]
+#[path = "../../../rlnc-rattle/src/entries.rs"]
+mod entries;
 
-unsafe extern "C" {
-    fn rlnc_inplace_mul_vec_by_scalar(vec: *mut u8, vec_len: usize, scalar: u8);
-    fn rlnc_inplace_add_vectors(dst: *mut u8, dst_len: usize, src: *const u8, src_len: usize) -> u8;
-    fn rlnc_mul_vec_by_scalar_then_add_into_vec(dst: *mut u8, dst_len: usize, src: *const u8, src_len: usize, scalar: u8) -> u8;
-    fn rlnc_mul_part_by_scalar_then_add_into_part(buffer: *mut u8, buffer_len: usize, from: usize, to: usize, len: usize, scalar: u8) -> u8;
-    fn rlnc_encoder_new(data: *const u8, data_len: usize, block: *mut u8, block_len: usize, piece_count: usize, piece_byte_len: &mut usize) -> u8;
-    fn rlnc_encoder_code_with_buf(
-        piece_count: usize,
-        piece_byte_len: usize,
-        block: *const u8,
-        block_len: usize,
-        coding_vector: *const u8,
-        coding_vector_len: usize,
-        full_coded_piece: *mut u8,
-        full_coded_piece_len: usize,
-    ) -> u8;
-    fn rlnc_recoder_recode_with_buf(
-        num_pieces_received: usize,
-        full_coded_piece_byte_len: usize,
-        num_pieces_coded_together: usize,
-        pieces: *const u8,
-        pieces_len: usize,
-        recoding_vector: *const u8,
-        recoding_vector_len: usize,
-        full_recoded_piece: *mut u8,
-        full_recoded_piece_len: usize,
-    ) -> u8;
-    fn rlnc_decoder_new(
-        piece_byte_len: usize,
-        required_piece_count: usize,
-        elements: *mut u8,
-        elements_len: usize,
-        useful_piece_count: &mut usize,
-        received_piece_count: &mut usize,
-    ) -> u8;
-    fn rlnc_decoder_decode(
-        piece_byte_len: usize,
-        required_piece_count: usize,
-        elements: *mut u8,
-        elements_len: usize,
-        full_coded_piece: *const u8,
-        full_coded_piece_len: usize,
-        useful_piece_count: &mut usize,
-        received_piece_count: &mut usize,
-    ) -> u8;
-    fn rlnc_decoder_get_decoded_data(
-        piece_byte_len: usize,
-        required_piece_count: usize,
-        useful_piece_count: usize,
-        received_piece_count: usize,
-        elements: *const u8,
-        elements_len: usize,
-        data: *mut u8,
-        data_room: usize,
-        data_len: &mut usize,
-    ) -> u8;
-    fn rlnc_stream_read(so_far: u8, bytes: *const u8, bytes_len: usize, kind: &mut u8) -> u8;
-}
+use entries::*;
 
 // Safe: each entry is proved for slices of any length, and for any numbers.
 pub fn inplace_mul_vec_by_scalar(vec: &mut [u8], scalar: u8) {
