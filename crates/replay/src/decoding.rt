@@ -20,17 +20,19 @@ pub(crate) fn call(
     b: &mut [u8],
 ) -> Decoder {
     let next = asked(c, d, elements, a, b);
-    say::count(next.get_num_pieces_coded_together());
-    say::count(next.get_piece_byte_len());
-    say::count(next.get_full_coded_piece_byte_len());
-    say::count(next.get_received_piece_count());
-    say::count(next.get_useful_piece_count());
-    say::count(next.get_remaining_piece_count());
-    complete(next.is_already_decoded());
-    say::bytes(elements);
-    say::bytes(a);
-    say::bytes(b);
+    counts(next);
+    say::buffers(elements, a, b);
     next
+}
+
+fn counts(d: Decoder) {
+    say::count(d.get_num_pieces_coded_together());
+    say::count(d.get_piece_byte_len());
+    say::count(d.get_full_coded_piece_byte_len());
+    say::count(d.get_received_piece_count());
+    say::count(d.get_useful_piece_count());
+    say::count(d.get_remaining_piece_count());
+    complete(d.is_already_decoded());
 }
 
 // The answer is said, and the record is the one to keep.

@@ -7,13 +7,15 @@ use field::Field;
 
 pub(crate) fn call(c: Call, e: Encoder, block: &mut [u8], a: &mut [u8], b: &mut [u8]) -> Encoder {
     let next = asked(c, e, block, a, b);
-    say::count(next.get_piece_count());
-    say::count(next.get_piece_byte_len());
-    say::count(next.get_full_coded_piece_byte_len());
-    say::bytes(block);
-    say::bytes(a);
-    say::bytes(b);
+    counts(next);
+    say::buffers(block, a, b);
     next
+}
+
+fn counts(e: Encoder) {
+    say::count(e.get_piece_count());
+    say::count(e.get_piece_byte_len());
+    say::count(e.get_full_coded_piece_byte_len());
 }
 
 // The answer is said, and the record is the one to keep.

@@ -7,14 +7,16 @@ use recoder::Recoder;
 
 pub(crate) fn call(c: Call, r: Recoder, pieces: &mut [u8], a: &mut [u8], b: &mut [u8]) -> Recoder {
     let next = asked(c, r, pieces, a, b);
-    say::count(next.get_original_num_pieces_coded_together());
-    say::count(next.get_num_pieces_recoded_together());
-    say::count(next.get_piece_byte_len());
-    say::count(next.get_full_coded_piece_byte_len());
-    say::bytes(pieces);
-    say::bytes(a);
-    say::bytes(b);
+    counts(next);
+    say::buffers(pieces, a, b);
     next
+}
+
+fn counts(r: Recoder) {
+    say::count(r.get_original_num_pieces_coded_together());
+    say::count(r.get_num_pieces_recoded_together());
+    say::count(r.get_piece_byte_len());
+    say::count(r.get_full_coded_piece_byte_len());
 }
 
 // The answer is said, and the record is the one to keep.

@@ -59,3 +59,10 @@ pub(crate) fn bytes(part: &[u8]) {
     }
     io::write_all(STDOUT_FILENO, &text[..used]);
 }
+
+// The lent part of a kept buffer, and the slices of the call.
+pub(crate) fn buffers(kept: &[u8], a: &[u8], b: &[u8]) {
+    bytes(kept);
+    bytes(a);
+    bytes(b);
+}
