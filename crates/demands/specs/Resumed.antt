@@ -1,5 +1,5 @@
--- "From fresh, saving and loading at any point leaves every later line as it would have been." The lines are those of `setjoin`, whatever the rest of
--- the stream; before them some pieces were read, and some were repeats.
+-- A decoder that was saved and loaded: every later line of the listing is as it would have been, whatever the rest of the stream. Before them some
+-- pieces were read, and some were repeats.
 use mathlib.Core.Path.{_≡_}
 use mathlib.Core.List.{List}
 use Prim.Native.Nat.{ℕ}

@@ -45,7 +45,7 @@ pub record NewUnpadded (n k : ℕ) (r : Made) : Type 0 where
 unfoldable pub badState : Encoder → ℕ → Bool
 badState e room = not (sized (e .«piece_count») (e .«piece_byte_len»)) || ltb room (e .«piece_count» * e .«piece_byte_len»)
 
--- "payload only: 22, 1, 13", with a block, a vector and an output of these lengths
+-- "payload only (`code_with_coding_vector`): 22, 1, 13", with a block, a vector and an output of these lengths
 unfoldable pub codeRefusal : Encoder → ℕ → ℕ → ℕ → Answer
 codeRefusal e block vector out =
     pick (badState e block) BadState
@@ -56,7 +56,7 @@ pub record Coded (𝓕 : FieldLaws) (e : Encoder) (block vector out : List ℕ) 
   pub result : r ≡ codeRefusal e (length block) (length vector) (length out)
   pub left : last ≡ ifOk (codeRefusal e (length block) (length vector) (length out)) (combine 𝓕 (e .«piece_byte_len») vector (rowsOf (e .«piece_byte_len») (e .«piece_count») block)) out
 
--- "whole piece: 22, 13, 1"
+-- "whole piece (`code_with_buf`): 22, 13, 1"
 unfoldable pub codeWholeRefusal : Encoder → ℕ → ℕ → ℕ → Answer
 codeWholeRefusal e block vector out =
     pick (badState e block) BadState

@@ -1,4 +1,4 @@
--- `field::Field::inv` meets its contract: the inverse in the field named.
+-- `field::Field::inv` meets its contract: a field of one case is that case, whose own inverse ensures it.
 -- Assumes nothing.
 use mathlib.Core.Path.{ap₂, _∙_}
 use Prim.Native.Nat.{ℕ}

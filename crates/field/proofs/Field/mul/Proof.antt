@@ -1,4 +1,4 @@
--- `field::Field::mul` meets its contract: the product in the field named.
+-- `field::Field::mul` meets its contract: a field of one case is that case, whose own product ensures it.
 -- Assumes nothing.
 use mathlib.Core.Path.{ap, _∙_}
 use borrow.Author.Needs.{needs}

@@ -1,4 +1,4 @@
--- `field::Field::times_x` meets its contract: the product with x in the field named.
+-- `field::Field::times_x` meets its contract: a field of one case is that case, whose own product with x ensures it.
 -- Assumes nothing.
 use mathlib.Core.Path.{ap, _∙_}
 use borrow.Author.Needs.{needs}
