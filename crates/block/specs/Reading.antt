@@ -2,7 +2,7 @@
 -- the reason the true one, is proved (proofs/Reading).
 use mathlib.Core.List.{List, [], _∷_}
 use mathlib.Core.Option.{Option, none, some}
-use Prim.Native.Nat.{ℕ, zero, suc}
+use Prim.Native.Nat.{ℕ, suc}
 use lib.Dec.{eqb}
 use lib.ListN.{drop}
 use Rattle.answers.specs.declared.Answer.{Answer}

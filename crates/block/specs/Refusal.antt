@@ -1,6 +1,5 @@
 -- A refusal is one answer and changes nothing: the definitions of the entries choose by it. An order of refusals is a chain of `pick`s that ends
 -- with Ok.
-use Prim.Native.Nat.{ℕ}
 use Rattle.answers.specs.Number.{numberOf}
 use Rattle.answers.specs.declared.Answer.{Answer}
 use Rattle.linear.specs.Choice.{ifZero}

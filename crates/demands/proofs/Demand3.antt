@@ -3,10 +3,11 @@
 -- Assumes nothing.
 use mathlib.Core.Path.{_≡_, refl, sym, ap, _∙_, subst}
 use mathlib.Core.Logic.{_↔_}
-use mathlib.Core.Bool.{true}
-use mathlib.Core.List.{List, _++_, map}
+use mathlib.Core.Bool.{true, false}
+use mathlib.Core.List.{List, [], _∷_, _++_, map}
 use Prim.Native.Nat.{ℕ, _*_, _≤_, _<_}
 use native.Mathlib.Nat.{pos-of-ne-zero}
+use native.Mathlib.Omega.{arith}
 use lib.Dec.{eqb}
 use lib.ListN.{length, take, drop}
 use borrow.Author.Tests.{eqb-true, eq-eqb, le-ltb}
@@ -17,21 +18,30 @@ use Rattle.linear.specs.Buffer.{rowsOf, flat}
 use Rattle.linear.proofs.Buffer.{length-rowsOf}
 use Rattle.linear.proofs.RowRules.{demand-3, demand-3-recovery}
 use Rattle.block.specs.declared.Padding.{Padding}
-use Rattle.block.specs.declared.Padding.the-variants.{Data}
+use Rattle.block.specs.declared.Padding.the-variants.{Data, MarkerAbsent, MarkerFirst, TailNotZero}
 use Rattle.block.specs.Refusal.{ifOk}
 use Rattle.block.specs.Padding.{Breaks, Carries}
 use Rattle.block.specs.Reading.{reading, answerOf, dataLength}
 use Rattle.block.proofs.Reading.{reads-data, reads-broken}
 use Rattle.decoder.specs.declared.Decoder.{Decoder}
+use Rattle.decoder.specs.declared.Complete.{Complete}
 use Rattle.decoder.specs.declared.Complete.the-variants as complete
 use Rattle.decoder.specs.declared.Recovered.{Recovered}
 use Rattle.decoder.specs.declared.Recovered.the-variants as recovered
 use Rattle.decoder.specs.Records.{kOf, LOf, FOf, rowsIn, sound, badState, heldRows}
+use Rattle.decoder.specs.Answers.{completeValues, recoveredNumber, recoveredValues}
 use Rattle.decoder.specs.Entries.{completed, blockIn, recoverRefusal, Recovery}
 use Rattle.demands.specs.History.{History}
 use Rattle.demands.specs.Demand3.{Demand3, Counters}
 use Rattle.decoder.proofs.Sound.{shown}
 use Rattle.demands.proofs.History.{Kept, kept}
+
+-- the answer of the case, told by its values
+pub closed-told : (c : Complete) → (completeValues c ≡ 1 ∷ []) ↔ (c ≡ complete.Of true)
+unfolding completeValues
+closed-told (complete.Of true) = (λ e. refl, λ e. refl)
+closed-told (complete.Of false) = (λ e. let never : _≡_ {A = ℕ} 0 1 = cc in absurd (omega arith), λ e. let never : _≡_ {A = ℕ} 0 1 = cc in absurd (omega arith))
+closed-told (complete.Refused a) = (λ e. let never : _≡_ {A = ℕ} 0 1 = cc in absurd (omega arith), λ e. let never : _≡_ {A = ℕ} 0 1 = cc in absurd (omega arith))
 
 module _ {𝓕 : FieldLaws} {k L : ℕ} {d : Decoder} {elements : List ℕ} {pieces : List (List ℕ)} (h : History 𝓕 k L d elements pieces) where
   abbrev it : Kept 𝓕 k L d elements pieces
@@ -102,11 +112,29 @@ module _ {𝓕 : FieldLaws} {k L : ℕ} {d : Decoder} {elements : List ℕ} {pie
             let e : answerOf (reading M (flat block)) ≡ InvalidDecodedDataFormat = reads-broken M (flat block) .0 y in
             (rw e at p, rw e at q)
 
+        -- a number of 11 is the refusal of a block that breaks the rule
+        eleven : recoveredNumber r ≡ 11 → Breaks M (flat block)
+        unfolding recoveredNumber answerOf
+        eleven z = reads-broken M (flat block) .1 (go (reading M (flat block)) refl)
+          where
+            go : (x : Padding) → reading M (flat block) ≡ x → answerOf (reading M (flat block)) ≡ InvalidDecodedDataFormat
+            go (Data n) e = let never : _≡_ {A = ℕ} 0 11 = sym (ap recoveredNumber (by-block (Data n) e .0)) ∙ z in absurd (omega arith)
+            go MarkerAbsent e = ap answerOf e
+            go MarkerFirst e = ap answerOf e
+            go TailNotZero e = ap answerOf e
+
   pub demand3 : (M : ℕ) (block : List (List ℕ)) → Block k L block → Agrees 𝓕 k L pieces block → Demand3 𝓕 M k L d elements pieces block
+  unfolding recoveredNumber recoveredValues
   demand3 M block b a = record {
-    closes = closes block b a;
-    yields = λ c {out} {last} {bytes} {r} w g y. data-back block b a c M out last r w g bytes y;
-    breaks = λ c {out} {last} {r} w g y. broken block b a c M out last r w g y;
+    closes = (λ e. closes block b a .0 (closed-told (completed d) .0 e), λ u. closed-told (completed d) .1 (closes block b a .1 u));
+    yields = λ e {out} {last} {bytes} {r} w g y.
+        let (p, q) = data-back block b a (closed-told (completed d) .0 e) M out last r w g bytes y in
+        (ap recoveredNumber p, ap recoveredValues p, q);
+    breaks = λ e {out} {last} {r} w g.
+        let c = closed-told (completed d) .0 e in (
+          (eleven block b a c M out last r w g, λ y. ap recoveredNumber (broken block b a c M out last r w g y .0)),
+          λ y. broken block b a c M out last r w g y .1,
+        );
   }
 
   pub counters : Counters k d pieces

@@ -3,7 +3,6 @@
 -- Assumes nothing.
 use mathlib.Core.Path.{_≡_, refl, sym, ap, _∙_, subst}
 use mathlib.Core.Logic.{_≢_}
-use mathlib.Core.Bool.{true}
 use mathlib.Core.List.{List, [], _∷_, _++_}
 use Prim.Native.Nat.{ℕ, zero, suc, _*_, _≤_, _<_}
 use native.Mathlib.Nat.{pos-of-ne-zero}
@@ -37,10 +36,10 @@ use Rattle.encoder.specs.Entries.{paddedRefusal, NewPadded}
 use Rattle.encoder.proofs.Truthful.{coded-truthful}
 use Rattle.recoder.proofs.Truthful.{payloadOf, recoded-truthful}
 use Rattle.decoder.specs.declared.Decoder.{Decoder}
-use Rattle.decoder.specs.declared.Complete.the-variants as complete
 use Rattle.decoder.specs.declared.Recovered.{Recovered}
-use Rattle.decoder.specs.declared.Recovered.the-variants as recovered
-use Rattle.decoder.specs.Entries.{completed, Recovery}
+use Rattle.decoder.specs.Answers.{recoveredNumber, recoveredValues}
+use Rattle.decoder.specs.Entries.{Recovery}
+use Rattle.demands.specs.Demand3.{Closed}
 use Rattle.demands.specs.History.{History}
 use Rattle.demands.specs.Sent.{Sent, coded, recoded}
 use Rattle.demands.proofs.Demand3.{demand3}
@@ -113,8 +112,8 @@ padded-rows M bytes k e block p =
 -- a fresh decoder of the block's size that took only such pieces and is complete gives the data back
 pub end-to-end : {𝓕 : FieldLaws} {M k : ℕ} {bytes buffer block : List ℕ} {e : Encoder} → M ≢ 0 → Bytes block → NewPadded M bytes buffer k (made.Of e) block
     → {d : Decoder} {elements : List ℕ} {pieces : List (List ℕ)} → History 𝓕 k (pieceLength (length bytes) k) d elements pieces → All (Sent 𝓕 e block) pieces
-    → completed d ≡ complete.Of true → {out last : List ℕ} {r : Recovered} → k * pieceLength (length bytes) k ≤ length out → Recovery M d elements out r last
-    → (r ≡ recovered.Data (length bytes)) × (last ≡ bytes ++ drop (length bytes) out)
+    → Closed d → {out last : List ℕ} {r : Recovered} → k * pieceLength (length bytes) k ≤ length out → Recovery M d elements out r last
+    → (recoveredNumber r ≡ 0) × (recoveredValues r ≡ length bytes ∷ []) × (last ≡ bytes ++ drop (length bytes) out)
 unfolding Agrees
 end-to-end {𝓕} {M} {k} {bytes} {buffer} {block} {e} m b n {d} {elements} {pieces} h sent c {out} {last} {r} w g =
     let p : Padded M bytes k e block = padded-of M bytes buffer k e block n in

@@ -22,10 +22,12 @@ use Rattle.decoder.specs.declared.Made.the-variants as new
 use Rattle.decoder.specs.declared.Taken.the-variants as piece
 use Rattle.decoder.specs.Records.{kOf, LOf, FOf, rowsIn, takenBy, heldRows}
 use Rattle.decoder.specs.Entries.{NewDecoder, takeRefusal, rowsAfter, after}
-use Rattle.demands.specs.History.{History, made, useful, notUseful, refused}
+use Rattle.demands.specs.History.{History, made, useful, notUseful, resumed, refused}
 use Rattle.decoder.proofs.Sound.{Sound, told}
 use Rattle.decoder.proofs.Accepted.{Accepted, accepted}
 use Rattle.decoder.proofs.Counters.{new-sound, after-sound}
+use Rattle.stored.specs.declared.Loaded.the-variants as loaded
+use Rattle.stored.proofs.Alike.{loaded-alike}
 use Rattle.demands.proofs.Outcomes.{made-of, Took, took as was-taken, unchanged}
 
 pub record Kept (𝓕 : FieldLaws) (k L : ℕ) (d : Decoder) (elements : List ℕ) (pieces : List (List ℕ)) : Type 0 where
@@ -120,5 +122,18 @@ kept {𝓕} {k} {L} (useful {d} {d′} {elements} {elements′} {full} {pieces} 
     kept-took 𝓕 k L d d′ elements elements′ full pieces (kept h) b (was-taken 𝓕 d elements full _ elements′ c d′ (inl refl))
 kept {𝓕} {k} {L} (notUseful {d} {d′} {elements} {elements′} {full} {pieces} h b c) =
     kept-took 𝓕 k L d d′ elements elements′ full pieces (kept h) b (was-taken 𝓕 d elements full _ elements′ c d′ (inr refl))
+kept {𝓕} {k} {L} (resumed {d} {d′} {elements} {out} {out′} {pieces} {n} h s behind matrix {matrix′} room l) =
+    let (e, a) = loaded-alike s behind matrix matrix′ (loaded.Of d′) room l in
+    let same : d ≡ d′ = cc in
+    let it : Kept 𝓕 k L d elements pieces = kept h in
+    subst (λ (x : Decoder). Kept 𝓕 k L x matrix′ pieces) same
+    (record {
+      same-k = it .same-k;
+      same-L = it .same-L;
+      numbers = it .numbers;
+      room = a .there;
+      taken = it .taken;
+      held = subst (Taken (takePiece 𝓕 k) k L pieces) (a .rows) (it .held);
+    })
 kept {𝓕} {k} {L} (refused {d} {elements} {elements′} {full} {pieces} {a} h c) =
     rw (unchanged 𝓕 d elements full _ elements′ c a refl) (kept h)

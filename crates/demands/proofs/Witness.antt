@@ -20,18 +20,18 @@ use Rattle.linear.specs.Pieces.{column, dot, Truthful}
 use Rattle.linear.specs.Blocks.{Block, Agrees}
 use Rattle.linear.specs.Buffer.{rowsOf, flat}
 use Rattle.block.specs.Sizes.{overLimit, sized}
-use Rattle.block.specs.Padding.{marker, Carries}
+use Rattle.block.specs.Padding.{Breaks, marker, Carries}
 use Rattle.block.specs.Reading.{lastMarker, readAt, reading, answerOf}
-use Rattle.block.proofs.Reading.{reads-data}
+use Rattle.block.proofs.Reading.{reads-data, reads-broken}
 use Rattle.decoder.specs.declared.Decoder.{Decoder}
 use Rattle.decoder.specs.declared.Taken.{Taken}
 use Rattle.decoder.specs.declared.Taken.the-variants as piece
 use Rattle.decoder.specs.Records.{rowsIn, sound, badState, heldRows}
-use Rattle.decoder.specs.Answers.{takenNumber}
+use Rattle.decoder.specs.Answers.{takenNumber, completeValues}
 use Rattle.decoder.specs.Entries.{decoderOf, newRefusal, takeRefusal, rowsAfter, after, taking, completed, blockIn, recoverRefusal}
 use Rattle.decoder.specs.Calls.{numberNext, recordNext, bufferNext}
 use Rattle.demands.specs.History.{History, made, useful}
-use Rattle.demands.specs.Witness.{four, five, theBlock, zeros, After, Witness}
+use Rattle.demands.specs.Witness.{four, five, theBlock, zeros, zeroBlock, After, Witness}
 
 -- a call that answers 0 goes on with the history
 module _ {𝓕 : FieldLaws} {k L : ℕ} {d : Decoder} {elements : List ℕ} {pieces : List (List ℕ)} (h : History 𝓕 k L d elements pieces) (full : List ℕ) (b : Bytes full) where
@@ -98,26 +98,44 @@ the-block = record {
 }
 
 -- byte by byte
-truthful : (full : List ℕ) → getD full 3 0 ≡ dot fips (take 3 full) (column 0 theBlock) → getD full 4 0 ≡ dot fips (take 3 full) (column 1 theBlock) → Truthful fips 3 2 theBlock full
+truthful : (block : List (List ℕ)) (full : List ℕ) → getD full 3 0 ≡ dot fips (take 3 full) (column 0 block) → getD full 4 0 ≡ dot fips (take 3 full) (column 1 block)
+    → Truthful fips 3 2 block full
 unfolding Truthful
-truthful full a b zero h = a
-truthful full a b (suc zero) h = b
-truthful full a b (suc (suc j)) h = absurd (not-suc-le-zero (le-of-suc-le-suc (le-of-suc-le-suc h)))
+truthful block full a b zero h = a
+truthful block full a b (suc zero) h = b
+truthful block full a b (suc (suc j)) h = absurd (not-suc-le-zero (le-of-suc-le-suc (le-of-suc-le-suc h)))
 
 agrees : Agrees fips 3 2 five theBlock
 unfolding Agrees dot column xtime times mul
 agrees =
-    more (truthful (1 ∷ 0 ∷ 0 ∷ 0x61 ∷ 0x62 ∷ []) refl refl)
-    (more (truthful (0 ∷ 1 ∷ 0 ∷ 0x63 ∷ 0x64 ∷ []) refl refl)
-    (more (truthful (0 ∷ 0 ∷ 1 ∷ 0x81 ∷ 0 ∷ []) refl refl)
-    (more (truthful (0 ∷ 0 ∷ 1 ∷ 0x81 ∷ 0 ∷ []) refl refl) (more (truthful (0 ∷ 0 ∷ 1 ∷ 0x81 ∷ 0 ∷ []) refl refl) none))))
+    more (truthful theBlock (1 ∷ 0 ∷ 0 ∷ 0x61 ∷ 0x62 ∷ []) refl refl)
+    (more (truthful theBlock (0 ∷ 1 ∷ 0 ∷ 0x63 ∷ 0x64 ∷ []) refl refl)
+    (more (truthful theBlock (0 ∷ 0 ∷ 1 ∷ 0x81 ∷ 0 ∷ []) refl refl)
+    (more (truthful theBlock (0 ∷ 0 ∷ 1 ∷ 0x81 ∷ 0 ∷ []) refl refl) (more (truthful theBlock (0 ∷ 0 ∷ 1 ∷ 0x81 ∷ 0 ∷ []) refl refl) none))))
 
 carries : Carries marker (flat theBlock) (0x61 ∷ 0x62 ∷ 0x63 ∷ 0x64 ∷ [])
 unfolding flat reading readAt lastMarker allZero
 carries = reads-data marker (flat theBlock) (0x61 ∷ 0x62 ∷ 0x63 ∷ 0x64 ∷ []) .1 (refl, refl)
 
+no-marker : Block 3 2 zeroBlock
+no-marker = record {
+  count = refl;
+  sizes = more refl (more refl (more refl none));
+  bytes = more (bytes-of (0 ∷ 0 ∷ []) tt) (more (bytes-of (0 ∷ 0 ∷ []) tt) (more (bytes-of (0 ∷ 0 ∷ []) tt) none));
+}
+
+agrees-too : Agrees fips 3 2 zeros zeroBlock
+unfolding Agrees dot column xtime times mul
+agrees-too =
+    more (truthful zeroBlock (0 ∷ 0 ∷ 1 ∷ 0 ∷ 0 ∷ []) refl refl)
+    (more (truthful zeroBlock (0 ∷ 1 ∷ 0 ∷ 0 ∷ 0 ∷ []) refl refl) (more (truthful zeroBlock (1 ∷ 0 ∷ 0 ∷ 0 ∷ 0 ∷ []) refl refl) none))
+
+broken : Breaks marker (flat zeroBlock)
+unfolding flat reading readAt lastMarker answerOf
+broken = reads-broken marker (flat zeroBlock) .1 refl
+
 pub witness : Witness
-unfolding xtime times mul pow inv takePiece reduce dropEmpty backward backwardAt clearAbove forward forwardAt clearPivoted pivotFrom clearBelow clearBy scaleRow addMultiple swapRows firstNonzero entry allZero rowsOf flat overLimit sized sound badState heldRows takenNumber takeRefusal rowsAfter after taking numberNext recordNext bufferNext start next completed blockIn recoverRefusal reading readAt lastMarker answerOf after-four after-five after-zeros
+unfolding completeValues xtime times mul pow inv takePiece reduce dropEmpty backward backwardAt clearAbove forward forwardAt clearPivoted pivotFrom clearBelow clearBy scaleRow addMultiple swapRows firstNonzero entry allZero rowsOf flat overLimit sized sound badState heldRows takenNumber takeRefusal rowsAfter after taking numberNext recordNext bufferNext start next completed blockIn recoverRefusal reading readAt lastMarker answerOf after-four after-five after-zeros
 witness =
     record {
       block = the-block;
@@ -127,6 +145,9 @@ witness =
       still-open = refl;
       after-five = after-five;
       closed = refl;
+      no-marker = no-marker;
+      agrees-too = agrees-too;
+      broken = broken;
       after-zeros = after-zeros;
       closed-too = refl;
       no-data = refl;

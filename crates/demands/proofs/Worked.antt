@@ -1,20 +1,23 @@
 -- The lines worked by hand: antt computes each from the definitions. Of P13 the tests of a byte against the marker are given.
 -- Assumes nothing.
-use mathlib.Core.Path.{_≡_, refl, sym}
+use mathlib.Core.Path.{_≡_, refl, sym, ap}
 use mathlib.Core.Logic.{_≢_}
 use mathlib.Core.List.{[], _∷_}
 use Prim.Native.Nat.{ℕ, zero, suc}
+use lib.ListN.{take}
 use borrow.Author.Tests.{eq-eqb, ne-eqb}
+use Rattle.answers.specs.Number.{numberOf}
 use Rattle.galois.specs.Gf.{xtime, times, mul, pow, inv}
 use Rattle.galois.specs.Quotient.{valuesOf, inverseOf}
 use Rattle.gf256.proofs.Lists.{powers, logs}
 use Rattle.linear.specs.Rows.{takePiece, reduce, dropEmpty, backward, backwardAt, clearAbove, forward, forwardAt, clearPivoted, pivotFrom, clearBelow, clearBy, scaleRow, addMultiple, swapRows, firstNonzero, entry, allZero}
 use Rattle.linear.specs.Pieces.{combine, recode}
 use Rattle.linear.specs.Buffer.{rowsOf, flat}
+use Rattle.block.specs.declared.Padding.{Padding}
 use Rattle.block.specs.declared.Padding.the-variants.{Data, MarkerAbsent, MarkerFirst, TailNotZero}
 use Rattle.block.specs.Sizes.{overLimit, sized}
 use Rattle.block.specs.Padding.{pieceLength, filled, padded}
-use Rattle.block.specs.Reading.{lastMarker, readAt, reading}
+use Rattle.block.specs.Reading.{lastMarker, readAt, reading, answerOf, dataLength}
 use Rattle.decoder.specs.Records.{sound, badState, heldRows}
 use Rattle.decoder.specs.Answers.{takenNumber}
 use Rattle.decoder.specs.Entries.{takeRefusal, rowsAfter, after, taking}
@@ -46,7 +49,7 @@ tail M zero z n = absurd (z refl)
 tail M (suc a) z n = rw (eq-eqb M M refl, ne-eqb (suc a) M n)
 
 pub worked : Worked
-unfolding xtime times mul pow inv valuesOf inverseOf powers logs takePiece reduce dropEmpty backward backwardAt clearAbove forward forwardAt clearPivoted pivotFrom clearBelow clearBy scaleRow addMultiple swapRows firstNonzero entry allZero combine recode rowsOf flat overLimit sized pieceLength filled padded sound badState heldRows takenNumber takeRefusal rowsAfter after taking numberNext recordNext bufferNext lines bufferAfter linesFromNew bufferFromNew
+unfolding answerOf dataLength xtime times mul pow inv valuesOf inverseOf powers logs takePiece reduce dropEmpty backward backwardAt clearAbove forward forwardAt clearPivoted pivotFrom clearBelow clearBy scaleRow addMultiple swapRows firstNonzero entry allZero combine recode rowsOf flat overLimit sized pieceLength filled padded sound badState heldRows takenNumber takeRefusal rowsAfter after taking numberNext recordNext bufferNext lines bufferAfter linesFromNew bufferFromNew
 worked =
     record {
       P1 = refl;
@@ -70,9 +73,9 @@ worked =
       P10 = refl;
       P11 = refl;
       P12 = refl;
-      P13-first = λ M m. first M 0 m;
-      P13-one = one;
-      P13-two = two;
-      P13-absent = absent;
-      P13-tail = tail;
+      P13-first = λ M m. ap (λ (x : Padding). numberOf (answerOf x)) (first M 0 m);
+      P13-one = λ M a m. (ap (λ (x : Padding). numberOf (answerOf x)) (one M a m), ap (λ (x : Padding). take (dataLength x) (a ∷ M ∷ 0 ∷ [])) (one M a m));
+      P13-two = λ M a m. (ap (λ (x : Padding). numberOf (answerOf x)) (two M a m), ap (λ (x : Padding). take (dataLength x) (a ∷ M ∷ M ∷ 0 ∷ [])) (two M a m));
+      P13-absent = λ M a n. ap (λ (x : Padding). numberOf (answerOf x)) (absent M a n);
+      P13-tail = λ M a z n. ap (λ (x : Padding). numberOf (answerOf x)) (tail M a z n);
     }

@@ -5,7 +5,6 @@ use Prim.Native.Nat.{ℕ, _+_, _<_}
 use lib.ListN.{getD}
 use Rattle.answers.specs.declared.Answer.the-variants.{Ok}
 use Rattle.galois.specs.FieldLaws.{FieldLaws}
-use Rattle.linear.specs.All.{Bytes}
 use Rattle.linear.specs.Buffer.{rowsOf}
 use Rattle.encoder.specs.declared.Encoder.{Encoder}
 use Rattle.encoder.specs.Entries.{CodedWhole}

@@ -4,7 +4,8 @@ use mathlib.Core.Path.{_≡_}
 use mathlib.Core.Logic.{_≢_}
 use mathlib.Core.List.{List, [], _∷_}
 use Prim.Native.Nat.{ℕ, _-_}
-use lib.ListN.{getD}
+use lib.ListN.{getD, take}
+use Rattle.answers.specs.Number.{numberOf}
 use Rattle.galois.specs.Gf.{mul, inv}
 use Rattle.galois.specs.Quotient.{valuesOf, inverseOf}
 use Rattle.gf256.specs.Fips197.{polynomial}
@@ -12,9 +13,8 @@ use Rattle.gf256.proofs.Lists.{powers, logs}
 use Rattle.gf256.proofs.Known.{fips}
 use Rattle.linear.specs.Buffer.{rowsOf}
 use Rattle.linear.specs.Pieces.{combine, recode}
-use Rattle.block.specs.declared.Padding.the-variants.{Data, MarkerAbsent, MarkerFirst, TailNotZero}
 use Rattle.block.specs.Padding.{pieceLength, padded}
-use Rattle.block.specs.Reading.{reading}
+use Rattle.block.specs.Reading.{reading, answerOf, dataLength}
 use Rattle.demands.specs.Calls.{linesFromNew, bufferFromNew}
 
 -- coefficients 0, 0, 1 and 0, 1, 0, with a payload byte
@@ -23,6 +23,13 @@ late = 0 ∷ 0 ∷ 1 ∷ 9 ∷ []
 
 abbrev pub middle : List ℕ
 middle = 0 ∷ 1 ∷ 0 ∷ 7 ∷ []
+
+-- what recovery answers for a block, and the data it gives
+abbrev pub numberRead : ℕ → List ℕ → ℕ
+numberRead M block = numberOf (answerOf (reading M block))
+
+abbrev pub dataRead : ℕ → List ℕ → List ℕ
+dataRead M block = take (dataLength (reading M block)) block
 
 pub record Worked : Type 0 where
   -- FIPS 197, 4.2
@@ -49,8 +56,9 @@ pub record Worked : Type 0 where
   pub P10 : combine fips 1 (1 ∷ 3 ∷ []) (rowsOf 1 2 (1 ∷ 2 ∷ [])) ≡ 7 ∷ []
   pub P11 : recode fips 3 (rowsOf 3 2 (1 ∷ 0 ∷ 1 ∷ 0 ∷ 1 ∷ 2 ∷ [])) (2 ∷ 3 ∷ []) ≡ 2 ∷ 3 ∷ 4 ∷ []
   pub P12 : bufferFromNew fips 2 1 ((3 ∷ 1 ∷ 1 ∷ []) ∷ (0 ∷ 1 ∷ 2 ∷ []) ∷ []) ≡ 1 ∷ 0 ∷ 1 ∷ 0 ∷ 1 ∷ 2 ∷ []
-  pub P13-first : (M : ℕ) → M ≢ 0 → reading M (M ∷ 0 ∷ []) ≡ MarkerFirst
-  pub P13-one : (M a : ℕ) → M ≢ 0 → reading M (a ∷ M ∷ 0 ∷ []) ≡ Data 1
-  pub P13-two : (M a : ℕ) → M ≢ 0 → reading M (a ∷ M ∷ M ∷ 0 ∷ []) ≡ Data 2
-  pub P13-absent : (M a : ℕ) → a ≢ M → reading M (a ∷ a ∷ []) ≡ MarkerAbsent
-  pub P13-tail : (M a : ℕ) → a ≢ 0 → a ≢ M → reading M (a ∷ M ∷ a ∷ []) ≡ TailNotZero
+  -- recovery's number, and the data where it is 0
+  pub P13-first : (M : ℕ) → M ≢ 0 → numberRead M (M ∷ 0 ∷ []) ≡ 11
+  pub P13-one : (M a : ℕ) → M ≢ 0 → (numberRead M (a ∷ M ∷ 0 ∷ []) ≡ 0) × (dataRead M (a ∷ M ∷ 0 ∷ []) ≡ a ∷ [])
+  pub P13-two : (M a : ℕ) → M ≢ 0 → (numberRead M (a ∷ M ∷ M ∷ 0 ∷ []) ≡ 0) × (dataRead M (a ∷ M ∷ M ∷ 0 ∷ []) ≡ a ∷ M ∷ [])
+  pub P13-absent : (M a : ℕ) → a ≢ M → numberRead M (a ∷ a ∷ []) ≡ 11
+  pub P13-tail : (M a : ℕ) → a ≢ 0 → a ≢ M → numberRead M (a ∷ M ∷ a ∷ []) ≡ 11

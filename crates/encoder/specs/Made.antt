@@ -4,7 +4,6 @@ use Prim.Native.Nat.{ℕ}
 use Rattle.answers.specs.Number.{numberOf}
 use Rattle.answers.specs.declared.Answer.{Answer}
 use Rattle.block.specs.Refusal.{ifOk}
-use Rattle.encoder.specs.declared.Encoder.{Encoder}
 use Rattle.encoder.specs.declared.Made.{Made}
 use Rattle.encoder.specs.declared.Made.the-variants.{Of, Refused}
 

@@ -5,3 +5,4 @@ pub mod Joining
 pub mod Listing
 pub mod Steps
 pub mod Runs
+pub mod Answers

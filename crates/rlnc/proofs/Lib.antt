@@ -4,3 +4,4 @@ pub mod Records
 pub mod Forms
 pub mod Streams
 pub mod OneResult
+pub mod OneNumbered

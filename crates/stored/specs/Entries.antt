@@ -15,6 +15,7 @@ use Rattle.stream.specs.declared.Geometry.{Geometry}
 use Rattle.stream.specs.Geometries.{piecesOf, bodyOf}
 use Rattle.decoder.specs.declared.Decoder.{Decoder}
 use Rattle.decoder.specs.Records.{kOf, LOf, badState}
+use Rattle.decoder.specs.Answers.{valuesOf}
 use Rattle.stored.specs.declared.Listed.{Listed}
 use Rattle.stored.specs.declared.Listed.the-variants as listed
 use Rattle.stored.specs.declared.Saved.{Saved}
@@ -23,14 +24,22 @@ use Rattle.stored.specs.declared.Loaded.{Loaded}
 use Rattle.stored.specs.declared.Loaded.the-variants as loaded
 use Rattle.stored.specs.Forms.{formSize, matrixSize, storedGeometry, sizeGeometry, formOf, formRows, formTaken, formMatrix, formDecoder}
 
--- the paper's numbers
+-- the paper's numbers, and the values: how many bytes were written; the decoder's
 unfoldable pub savedNumber : Saved → ℕ
 savedNumber (saved.Bytes n) = 0
 savedNumber (saved.Refused a) = numberOf a
 
+unfoldable pub savedValues : Saved → List ℕ
+savedValues (saved.Bytes n) = n ∷ []
+savedValues (saved.Refused a) = []
+
 unfoldable pub loadedNumber : Loaded → ℕ
 loadedNumber (loaded.Of d) = 0
 loadedNumber (loaded.Refused a) = numberOf a
+
+unfoldable pub loadedValues : Loaded → List ℕ
+loadedValues (loaded.Of d) = valuesOf d
+loadedValues (loaded.Refused a) = []
 
 -- "it refuses 22, 24 for an unlisted size, 21": of a decoder in a good state
 unfoldable pub sizeRefusal : Listed → ℕ → Answer

@@ -37,11 +37,16 @@ unfoldable pub recordAt : Seen → List ℕ → Record
 recordAt so-far [] = Refused CutRecord
 recordAt so-far (kind ∷ rest) = kindRecord so-far kind (length rest)
 
--- the paper's number of a record
+-- the paper's number of a record, and its value: the kind of a piece, which tells the geometry
 unfoldable pub recordNumber : Record → ℕ
 recordNumber (Piece g) = 0
 recordNumber End = 0
 recordNumber (Refused a) = numberOf a
+
+unfoldable pub recordValues : Record → List ℕ
+recordValues (Piece g) = kindOf g ∷ []
+recordValues End = []
+recordValues (Refused a) = []
 
 -- writing a piece: 12 for a piece of another length, then 13 for an output of another
 unfoldable pub writeRefusal : Geometry → ℕ → ℕ → Answer
