@@ -85,7 +85,7 @@ module _ {𝓕 : FieldLaws} {k L : ℕ} {d : Decoder} {elements : List ℕ} {pie
           ∙ ap (λ (n : ℕ). flat (map (drop n) (heldRows d elements))) (it .same-k)
           ∙ ap flat (demand-3-recovery 𝓕 k L pieces (heldRows d elements) (it .held) block b a (complete-rows .0 c))
 
-      recovers : (M room : ℕ) → k * L ≤ room → recoverRefusal M d elements room ≡ answerOf (reading M (flat block))
+      pub recovers : (M room : ℕ) → k * L ≤ room → recoverRefusal M d elements room ≡ answerOf (reading M (flat block))
       unfolding recoverRefusal badState
       recovers M room w =
           let all : rowsIn d ≡ kOf d = sym held-count ∙ complete-rows .0 c ∙ sym (it .same-k) in

@@ -6,3 +6,4 @@ pub mod EndToEnd
 pub mod Witness
 pub mod Worked
 pub mod Resumed
+pub mod Purpose

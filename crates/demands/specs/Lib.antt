@@ -5,3 +5,4 @@ pub mod Sent
 pub mod Witness
 pub mod Worked
 pub mod Resumed
+pub mod Purpose

@@ -25,10 +25,12 @@ use Rattle.listing.specs.declared.Put.the-variants as put
 use Rattle.listing.specs.declared.join.Held.{Held}
 use Rattle.listing.specs.declared.join.Held.the-variants as held
 use Rattle.listing.specs.declared.join.Joining.{Joining}
+use Rattle.listing.specs.declared.join.End.{End}
+use Rattle.listing.specs.declared.join.End.the-variants as end
 use Rattle.listing.specs.Lines.{endLine, dataLine}
 use Rattle.listing.specs.Puts.{Lined}
 use Rattle.listing.specs.Listing.{endAnswer, dataOf, endLines}
-use Rattle.listing.specs.Steps.{lineRoom, endRefusal, Finished}
+use Rattle.listing.specs.Steps.{lineRoom, endRefusal, aloneOf, withData, Finished}
 use Rattle.listing.proofs.Counting.{put-bytes, put-text}
 use Rattle.listing.proofs.Hex.{length-data-line}
 use Rattle.listing.proofs.Short.{end-short}
@@ -94,19 +96,20 @@ unfolding endRefusal
 passed room out h = simp (le-ltb _ _ h)
 
 module _ {j : Joining} {elements area out : List ℕ} where
-  pub end-refused : length out < lineRoom + (length area * 2 + 1) → Finished j elements area out (put.Refused NoRoom) area out
+  pub end-refused : length out < lineRoom + (length area * 2 + 1) → Finished j elements area out (end.Refused NoRoom) area out
   unfolding endRefusal
   end-refused h = record { result = simp (lt-ltb _ _ h); left = simp (lt-ltb _ _ h); printed = simp (lt-ltb _ _ h) }
 
-  ended : {kept text : List ℕ} {r : Put} → lineRoom + (length area * 2 + 1) ≤ length out → length (endLines j elements (length area)) ≤ length out
+  ended : {kept text : List ℕ} {r : Put} {q : End} → lineRoom + (length area * 2 + 1) ≤ length out → length (endLines j elements (length area)) ≤ length out
       → Lined (endLines j elements (length area)) out r text
+      → q ≡ ifOk (endAnswer (j .held) elements (length area)) (end.Data (length (dataOf (j .held) elements)) (length (endLines j elements (length area)))) (end.Alone (length (endLines j elements (length area))))
       → kept ≡ ifOk (endAnswer (j .held) elements (length area)) (dataOf (j .held) elements ++ drop (length (dataOf (j .held) elements)) area) area
-      → Finished j elements area out r kept text
-  ended h fits l k =
+      → Finished j elements area out q kept text
+  ended h fits l e k =
       let a : Answer = endRefusal (length area) (length out) in
       let ok : numberOf (endRefusal (length area) (length out)) ≡ 0 = passed (length area) (length out) h in
       record {
-        result = put-bytes l fits ∙ chosen a _ _ ok;
+        result = e ∙ chosen a _ _ ok;
         left = k ∙ chosen a _ _ ok;
         printed = put-text l fits ∙ chosen a _ _ ok;
       }
@@ -114,31 +117,35 @@ module _ {j : Joining} {elements area out : List ℕ} where
   -- recovery refused
   pub ended-alone : {text : List ℕ} {r : Put} (a : Answer) (n : ℕ) → lineRoom + (length area * 2 + 1) ≤ length out
       → endAnswer (j .held) elements (length area) ≡ a → numberOf a ≡ suc n → Lined (endLine (numberOf a) 0 (j .repeats)) out r text
-      → Finished j elements area out r area text
-  unfolding endLines
+      → Finished j elements area out (aloneOf r) area text
+  unfolding endLines aloneOf
   ended-alone {text} {r} a n h p k l =
       let b : Answer = endAnswer (j .held) elements (length area) in
       let e : endLine (numberOf a) 0 (j .repeats) ≡ endLines j elements (length area) = declined a b n _ (λ b. endLine (numberOf b) 0 (j .repeats)) p k in
-      ended h (omega (arith, sym (ap length e), end-short (numberOf a) 0 (j .repeats))) (subst (λ (x : List ℕ). Lined x out r text) e l)
+      let fits : length (endLines j elements (length area)) ≤ length out = omega (arith, sym (ap length e), end-short (numberOf a) 0 (j .repeats)) in
+      let whole : Lined (endLines j elements (length area)) out r text = subst (λ (x : List ℕ). Lined x out r text) e l in
+      ended h fits whole (ap aloneOf (put-bytes whole fits) ∙ declined a b n _ (λ b. end.Alone (length (endLines j elements (length area)))) p k)
       (declined a b n _ (λ b. area) p k)
 
   -- it did not
-  pub ended-data : {bytes kept text : List ℕ} {r : Put} → lineRoom + (length area * 2 + 1) ≤ length out
-      → numberOf (endAnswer (j .held) elements (length area)) ≡ 0 → bytes ≡ dataOf (j .held) elements → length bytes ≤ length area
-      → kept ≡ dataOf (j .held) elements ++ drop (length (dataOf (j .held) elements)) area
-      → Lined (endLine 0 (length bytes) (j .repeats) ++ dataLine bytes) out r text → Finished j elements area out r kept text
-  unfolding endLines
-  ended-data {bytes} {kept} {text} {r} h ok d few k l =
+  pub ended-data : {bytes kept text : List ℕ} {r : Put} {n : ℕ} → lineRoom + (length area * 2 + 1) ≤ length out
+      → numberOf (endAnswer (j .held) elements (length area)) ≡ 0 → n ≡ length (dataOf (j .held) elements) → bytes ≡ dataOf (j .held) elements
+      → length bytes ≤ length area → kept ≡ dataOf (j .held) elements ++ drop (length (dataOf (j .held) elements)) area
+      → Lined (endLine 0 (length bytes) (j .repeats) ++ dataLine bytes) out r text → Finished j elements area out (withData n r) kept text
+  unfolding endLines withData
+  ended-data {bytes} {kept} {text} {r} {n} h ok m d few k l =
       let b : Answer = endAnswer (j .held) elements (length area) in
       let e : endLine 0 (length bytes) (j .repeats) ++ dataLine bytes ≡ endLines j elements (length area) =
       (λ i. endLine 0 (length (d i)) (j .repeats) ++ dataLine (d i)) ∙ chosen b _ _ ok in
-      ended h
-      (omega (arith, sym (ap length e), length-append (endLine 0 (length bytes) (j .repeats)) (dataLine bytes), end-short 0 (length bytes) (j .repeats), length-data-line bytes))
-      (subst (λ (x : List ℕ). Lined x out r text) e l) (k ∙ chosen b _ _ ok)
+      let fits : length (endLines j elements (length area)) ≤ length out =
+      omega (arith, sym (ap length e), length-append (endLine 0 (length bytes) (j .repeats)) (dataLine bytes), end-short 0 (length bytes) (j .repeats), length-data-line bytes) in
+      let whole : Lined (endLines j elements (length area)) out r text = subst (λ (x : List ℕ). Lined x out r text) e l in
+      ended h fits whole ((λ i. withData (m i) (put-bytes whole fits i)) ∙ chosen b _ _ ok) (k ∙ chosen b _ _ ok)
 
 -- the one outcome of an end that is not refused
 pub ends : (j : Joining) (elements area out : List ℕ) → lineRoom + (length area * 2 + 1) ≤ length out
-    → Finished j elements area out (put.Bytes (length (endLines j elements (length area))))
+    → Finished j elements area out
+    (ifOk (endAnswer (j .held) elements (length area)) (end.Data (length (dataOf (j .held) elements)) (length (endLines j elements (length area)))) (end.Alone (length (endLines j elements (length area)))))
     (ifOk (endAnswer (j .held) elements (length area)) (dataOf (j .held) elements ++ drop (length (dataOf (j .held) elements)) area) area)
     (endLines j elements (length area) ++ drop (length (endLines j elements (length area))) out)
 ends j elements area out h =

@@ -3,12 +3,9 @@ pub mod Decimal
 pub mod Ending
 pub mod Example
 pub mod Hex
-pub mod Iterates
 pub mod OneResult
 pub mod Putting
-pub mod Runs
 pub mod Short
 pub mod Stepping
 pub mod Taking
 pub mod TwoLines
-pub mod Written

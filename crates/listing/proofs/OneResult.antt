@@ -9,6 +9,7 @@ use Rattle.stream.specs.declared.Geometry.{Geometry}
 use Rattle.listing.specs.declared.Put.{Put}
 use Rattle.listing.specs.declared.join.Joining.{Joining}
 use Rattle.listing.specs.declared.join.Step.{Step}
+use Rattle.listing.specs.declared.join.End.{End}
 use Rattle.listing.specs.Puts.{Lined}
 use Rattle.listing.specs.Steps.{Stepped, Finished}
 
@@ -20,6 +21,6 @@ pub one-stepped : {𝓕 : FieldLaws} {j : Joining} {g : Geometry} {full elements
     → (r ≡ r′) × (matrix ≡ matrix′) × (text ≡ text′)
 one-stepped x y = (x .result ∙ sym (y .result), x .left ∙ sym (y .left), x .printed ∙ sym (y .printed))
 
-pub one-finished : {j : Joining} {elements area out kept kept′ text text′ : List ℕ} {r r′ : Put} → Finished j elements area out r kept text
+pub one-finished : {j : Joining} {elements area out kept kept′ text text′ : List ℕ} {r r′ : End} → Finished j elements area out r kept text
     → Finished j elements area out r′ kept′ text′ → (r ≡ r′) × (kept ≡ kept′) × (text ≡ text′)
 one-finished x y = (x .result ∙ sym (y .result), x .left ∙ sym (y .left), x .printed ∙ sym (y .printed))

@@ -4,5 +4,4 @@ pub mod Puts
 pub mod Joining
 pub mod Listing
 pub mod Steps
-pub mod Runs
 pub mod Answers

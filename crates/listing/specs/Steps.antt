@@ -22,6 +22,8 @@ use Rattle.listing.specs.declared.join.Held.the-variants as held
 use Rattle.listing.specs.declared.join.Joining.{Joining}
 use Rattle.listing.specs.declared.join.Step.{Step}
 use Rattle.listing.specs.declared.join.Step.the-variants.{Line, Refused}
+use Rattle.listing.specs.declared.join.End.{End}
+use Rattle.listing.specs.declared.join.End.the-variants as end
 use Rattle.listing.specs.Joining.{joined, lineOf, joinedAfter, elementsAfter, lineFor}
 use Rattle.listing.specs.Listing.{endAnswer, dataOf, endLines}
 
@@ -77,12 +79,23 @@ pub record Stepped (𝓕 : FieldLaws) (j : Joining) (g : Geometry) (full element
 unfoldable pub endRefusal : ℕ → ℕ → Answer
 endRefusal room out = pick (ltb out (lineRoom + (room * 2 + 1))) NoRoom Ok
 
+-- the end line alone, and the end line with a line of so many bytes of data
+unfoldable pub aloneOf : Put → End
+aloneOf (put.Bytes n) = end.Alone n
+aloneOf (put.Refused a) = end.Refused a
+
+unfoldable pub withData : ℕ → Put → End
+withData size (put.Bytes n) = end.Data size n
+withData size (put.Refused a) = end.Refused a
+
 -- the lines of the end; the data stand where recovery writes them
-pub record Finished (j : Joining) (elements area out : List ℕ) (r : Put) (kept text : List ℕ) : Type 0 where
+pub record Finished (j : Joining) (elements area out : List ℕ) (r : End) (kept text : List ℕ) : Type 0 where
   pub result :
       r
-      ≡ ifOk (endRefusal (length area) (length out)) (put.Bytes (length (endLines j elements (length area))))
-      (put.Refused (endRefusal (length area) (length out)))
+      ≡ ifOk (endRefusal (length area) (length out))
+      (ifOk (endAnswer (j .held) elements (length area)) (end.Data (length (dataOf (j .held) elements)) (length (endLines j elements (length area))))
+      (end.Alone (length (endLines j elements (length area)))))
+      (end.Refused (endRefusal (length area) (length out)))
   pub left :
       kept
       ≡ ifOk (endRefusal (length area) (length out))

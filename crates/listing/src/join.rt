@@ -5,7 +5,7 @@ ghost use Prim.Native.Nat.{_≤_, _<_};
 ghost use lib.ListN.{length};
 ghost use Rattle.field.specs.FieldOf.{fieldOf};
 ghost use Rattle.listing.specs.Joining.{nothing};
-ghost use Rattle.listing.specs.Steps.{Counted, Took, Stepped, Finished};
+ghost use Rattle.listing.specs.Steps.{Counted, Took, Stepped, aloneOf, withData, Finished};
 use crate::LINE_LEN;
 use crate::Put;
 use answers::Answer;
@@ -32,6 +32,13 @@ pub struct Joining {
 // The record after a piece and how many bytes its line has, or why nothing was done.
 pub enum Step {
     Line(Joining, usize),
+    Refused(Answer),
+}
+
+// The lines of the end: how many bytes of data and of text there are, or how many of text where there are no data; or why nothing was done.
+pub enum End {
+    Data(usize, usize),
+    Alone(usize),
     Refused(Answer),
 }
 
@@ -126,22 +133,40 @@ impl Joining {
 
     // The end of the stream: recovers the data into `data`, and puts the end line and, if there are data, their line. 21 where `out` could be too
     // small for the data that `data` has room for; too small a `data` is recovery's own answer 21, and stands in the end line.
-    pub fn finish(self, elements: &[u8], data: &mut [u8], out: &mut [u8]) -> Put
+    pub fn finish(self, elements: &[u8], data: &mut [u8], out: &mut [u8]) -> End
         ensures { λ r. ⌜ Finished self (now (elements .entry)) (now («data» .entry)) (now (out .entry)) r (now («data» .exit)) (now (out .exit)) ⌝ }
     {
         if out.len() <= LINE_LEN {
-            return Put::Refused(Answer::NoRoom);
+            return End::Refused(Answer::NoRoom);
         }
         if (out.len() - LINE_LEN - 1) / 2 < data.len() {
-            return Put::Refused(Answer::NoRoom);
+            return End::Refused(Answer::NoRoom);
         }
         let held = self.held;
         let Held::Of(d) = held else {
-            return crate::end_line(out, Answer::NotAllPiecesReceivedYet, 0, self.repeats);
+            return alone(crate::end_line(out, Answer::NotAllPiecesReceivedYet, 0, self.repeats));
         };
         match d.get_decoded_data(elements, data) {
-            Recovered::Refused(a) => crate::end_line(out, a, 0, self.repeats),
-            Recovered::Data(n) => crate::data_lines(out, &data[..n], self.repeats),
+            Recovered::Refused(a) => alone(crate::end_line(out, a, 0, self.repeats)),
+            Recovered::Data(n) => with_data(n, crate::data_lines(out, &data[..n], self.repeats)),
         }
+    }
+}
+
+fn alone(text: Put) -> End
+    ensures { λ r. ⌜ r ≡ aloneOf text ⌝ }
+{
+    match text {
+        Put::Bytes(n) => End::Alone(n),
+        Put::Refused(a) => End::Refused(a),
+    }
+}
+
+fn with_data(size: usize, text: Put) -> End
+    ensures { λ r. ⌜ r ≡ withData size text ⌝ }
+{
+    match text {
+        Put::Bytes(n) => End::Data(size, n),
+        Put::Refused(a) => End::Refused(a),
     }
 }

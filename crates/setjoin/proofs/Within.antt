@@ -1,52 +1,56 @@
--- What the steps put lies in the buffer that they put it into.
+-- What is read, fed and put lies in its buffer.
 -- Assumes nothing.
-use mathlib.Core.Path.{_≡_, subst}
+use mathlib.Core.Path.{_≡_, sym, ap, _∙_}
 use mathlib.Core.List.{List, _++_}
-use Prim.Native.Nat.{ℕ, _+_, _-_, _≤_}
+use Prim.Native.Nat.{ℕ, zero, suc, _+_, _-_, _≤_}
 use native.Mathlib.Omega.{arith}
 use borrow.Rule.Slice.PartMut.{putMid, same-len-mid}
 use lib.ListN.{length, take, drop, length-append, length-take, length-drop}
-use lib.Seq.{length-take-le}
-use Rattle.galois.specs.FieldLaws.{FieldLaws}
-use Rattle.stream.specs.declared.Geometry.{Geometry}
-use Rattle.stream.specs.declared.Geometry.the-variants.{Of3By2, Of16By240, Of32By480}
-use Rattle.stream.specs.Geometries.{bodyOf}
-use Rattle.listing.specs.declared.Put.{Put}
-use Rattle.listing.specs.declared.Put.the-variants.{Bytes}
-use Rattle.listing.specs.declared.join.Joining.{Joining}
-use Rattle.listing.specs.declared.join.Step.{Step}
-use Rattle.listing.specs.declared.join.Step.the-variants.{Line}
-use Rattle.listing.specs.Puts.{Lined}
-use Rattle.listing.specs.Steps.{Stepped, Finished}
-use Rattle.listing.proofs.Written.{lined, finished, stepped}
+use Rattle.answers.specs.Number.{numberOf}
+use Rattle.answers.specs.declared.Answer.{Answer}
+use Rattle.linear.specs.Choice.{ifZero}
+use Rattle.pump.specs.declared.Place.{Place}
+use Rattle.pump.specs.declared.Place.the-variants.{Start, Body, Done}
+use Rattle.pump.specs.declared.Machine.{Machine}
+use Rattle.pump.specs.declared.Fed.{Fed}
+use Rattle.pump.specs.declared.Fed.the-variants.{Text, Refused}
+use Rattle.pump.specs.Machine.{wanted, Outcome, over, Going}
+use Rattle.pump.proofs.Turning.{body-short}
+use Rattle.setjoin.specs.declared.Room.{Room}
+use Rattle.setjoin.specs.declared.Room.the-variants.{From}
+use Rattle.setjoin.specs.Used.{usedBy}
 
-pub line-in : {line out last : List ℕ} {r : Put} (n : ℕ) → Lined line out r last → r ≡ Bytes n → n ≤ length last
-line-in {line} {out} {last} n l e = lined (subst (λ (r : Put). Lined line out r last) e l) .within
+-- n bytes of the part from `from` on
+pub sum-in : (from n : ℕ) (buf : List ℕ) → from ≤ length buf → n ≤ length (take (length buf - from) (drop from buf)) → from + n ≤ length buf
+sum-in from n buf h k = omega (arith, length-take (length buf - from) (drop from buf), length-drop from buf)
 
-pub step-in : {𝓕 : FieldLaws} {j next : Joining} {g : Geometry} {full elements out matrix text : List ℕ} {r : Step} (n : ℕ)
-    → Stepped 𝓕 j g full elements out r matrix text → r ≡ Line next n → n ≤ length text
-step-in {𝓕} {j} {next} {g} {full} {elements} {out} {matrix} {text} n x e =
-    stepped (subst (λ (r : Step). Stepped 𝓕 j g full elements out r matrix text) e x) .2 .within
+pub from-in : {r : Room} {n most : ℕ} → usedBy r ≤ most → r ≡ From n → n ≤ most
+from-in h e = omega (arith, ap usedBy e)
 
-pub end-in : {j : Joining} {elements area out kept text : List ℕ} {r : Put} (n : ℕ) → Finished j elements area out r kept text → r ≡ Bytes n
-    → n ≤ length text
-end-in {j} {elements} {area} {out} {kept} {text} n x e = finished (subst (λ (r : Put). Finished j elements area out r kept text) e x) .within
+pub read-in : (n : ℕ) (part rest : List ℕ) → n ≤ length part → n ≤ length (part ++ rest)
+read-in n part rest h = omega (arith, length-append part rest)
 
--- a part of the buffer from `used` on, and n bytes of it
-module _ (used n : ℕ) (out part : List ℕ) (h : used ≤ length out) (k : n ≤ length part)
-    (same : length part ≡ length (take (length out - used) (drop used out))) where
-  pub sum-in : used + n ≤ length out
-  sum-in = omega (arith, length-take (length out - used) (drop used out), length-drop used out)
+-- what the machine wants
+pub want-short : (p : Place) → wanted p ≤ 513
+unfolding wanted
+want-short Start = omega arith
+want-short (Body g) = omega (arith, body-short g)
+want-short (Done e) = omega arith
 
-  pub part-in : used + n ≤ length (putMid used (length out - used) out part)
-  part-in = omega (arith, sum-in, same-len-mid used (length out - used) out part same)
+-- what it was fed to put
+pub fed-in : {refusal : Answer} {o : Outcome} {elements area out matrix kept last : List ℕ} {r : Fed} {next : Machine} {n : ℕ}
+    → Going refusal o elements area out r matrix kept last → r ≡ Text next n → n ≤ length last
+fed-in {refusal} {o} {elements} {area} {out} {matrix} {kept} {last} {r} {next} {n} x e = go (numberOf refusal) (sym e ∙ x .result) (x .printed)
+  where
+    go : (m : ℕ) → Text next n ≡ ifZero m (Text (o .next) (length (o .text))) (Refused refusal) → last ≡ ifZero m (over (o .text) out) out → n ≤ length last
+    go zero e l =
+        let s : n ≡ length (o .text) = cc in
+        omega (arith, ap length l, length-append (o .text) (drop (length (o .text)) out))
+    go (suc m) e l = let z : _≡_ {A = ℕ} 0 1 = cc in absurd (omega arith)
 
--- a body, and the byte behind it
-pub body-short : (g : Geometry) → bodyOf g ≤ 512
-body-short Of3By2 = omega arith
-body-short Of16By240 = omega arith
-body-short Of32By480 = omega arith
+module _ (from n : ℕ) (out part : List ℕ) (h : from ≤ length out) (k : n ≤ length part) (same : length part ≡ length (take (length out - from) (drop from out))) where
+  pub put-in : from + n ≤ length out
+  put-in = sum-in from n out h (omega arith)
 
-pub body-in : (n : ℕ) (buffer read : List ℕ) → n + 1 ≤ length buffer → length read ≡ length (take (n + 1) buffer)
-    → n ≤ length (read ++ drop (n + 1) buffer)
-body-in n buffer read h same = omega (arith, length-append read (drop (n + 1) buffer), length-take-le (n + 1) buffer h)
+  pub put-back : from + n ≤ length (putMid from (length out - from) out part)
+  put-back = omega (arith, put-in, same-len-mid from (length out - from) out part same)

@@ -1,8 +1,8 @@
--- How much of the output buffer is used after a turn.
+-- How much of the output buffer is used.
 use Prim.Native.Nat.{ℕ}
-use Rattle.setjoin.specs.declared.After.{After}
-use Rattle.setjoin.specs.declared.After.the-variants.{Next, Done}
+use Rattle.setjoin.specs.declared.Room.{Room}
+use Rattle.setjoin.specs.declared.Room.the-variants.{From, Failed}
 
-abbrev pub usedBy : After → ℕ
-usedBy (Next p) = p .used
-usedBy Done = 0
+abbrev pub usedBy : Room → ℕ
+usedBy (From n) = n
+usedBy Failed = 0

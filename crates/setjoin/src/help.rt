@@ -9,8 +9,12 @@ fn say(line: &[u8]) {
 pub(crate) fn help() {
     say(b"setjoin: joins the pieces of a set that came by multicast");
     say(b"");
-    say(b"  setjoin < stream          prints the listing of a piece stream");
+    say(b"  setjoin [FILE]            prints the listing of a piece stream");
+    say(
+        b"  setjoin --data [FILE]     writes the data alone; where there are none, the last line to standard error",
+    );
     say(b"  setjoin --help            prints this");
+    say(b"With no FILE, or with -, it reads standard input.");
     say(b"");
     input();
     output();
@@ -18,7 +22,7 @@ pub(crate) fn help() {
 }
 
 fn input() {
-    say(b"It reads records from standard input: one byte of kind, then a body.");
+    say(b"It reads records: one byte of kind, then a body.");
     say(b"  01   the end, with no body. Nothing behind it is read");
     say(b"  11   a piece of 3 coefficients and 2 bytes");
     say(b"  12   a piece of 16 coefficients and 240 bytes");
@@ -36,8 +40,6 @@ fn output() {
     say(b"  REPEATS is how many pieces were answered 8.");
     say(b"Where the stream cannot be read on, there is no end line and no data, but:");
     say(b"  stop ANSWER OFFSET, the offset of the record in bytes.");
-    say(b"The data as a file:");
-    say(b"  setjoin < stream | sed '1,/^end 0 /d' | tr a-f A-F | basenc -d --base16 > file");
     say(b"");
 }
 

@@ -1,180 +1,244 @@
-// Reads a piece stream from standard input and prints its listing: a line for each piece, then what became of the set. The work is done by
-// `stream` and `listing`; here bytes are read and written.
+// Reads a piece stream and prints its listing, or the data alone. What is read next and what is printed is decided by the machine of `pump`; here
+// bytes are read, fed and written.
 ghost use Prim.Native.Nat.{_≤_};
 ghost use lib.ListN.{length};
 ghost use Rattle.setjoin.specs.Used.{usedBy};
-use answers::Answer;
+use call::Call;
 use field::Field;
+use libc::STDERR_FILENO;
 use libc::STDIN_FILENO;
 use libc::STDOUT_FILENO;
-use listing::LINE_LEN;
-use listing::Put;
-use listing::join::Joining;
-use listing::join::Step;
-use stream::Geometry;
-use stream::Record;
-use stream::Seen;
+use pump::BLOCK_LEN;
+use pump::Ending;
+use pump::Fed;
+use pump::INPUT_LEN;
+use pump::MATRIX_LEN;
+use pump::Machine;
+use pump::Place;
+use pump::TEXT_LEN;
 
+mod call;
 mod help;
 
-// The largest geometry: its matrix, its block, and its body.
-const MATRIX_LEN: usize = 16384;
-
-const BLOCK_LEN: usize = 15360;
-
-const BODY_LEN: usize = 512;
-
-// Between two records: the kind byte of the next one and its offset, what was seen, and how much of the output buffer is used.
-struct Place {
-    kind: u8,
-    at: u64,
-    seen: Seen,
-    joining: Joining,
-    used: usize,
+// What is written: the listing, a line as soon as it is known, or the data alone.
+enum Mode {
+    Listing,
+    Lines,
+    Data,
 }
 
-enum After {
-    Next(Place),
-    Done,
+// How much of the output buffer is used, or that it could not be written.
+enum Room {
+    From(usize),
+    Failed,
 }
 
-// Makes room for a line: writes the buffer out where less than that is left. Answers how much is used then.
-fn with_room(out: &[u8], used: usize) -> usize
-    requires { ⌜ used ≤ length (now out) ⌝ }
-    ensures { λ r. ⌜ r ≤ length (now (out .entry)) ⌝ }
+// Fills the buffer, or reads to the end of the input. A read that fails says so, and then counts as the end.
+fn read(fd: i32, buf: &mut [u8]) -> usize
+    ensures { λ r. ⌜ r ≤ length (now (buf .exit)) ⌝ }
 {
-    if out.len() - used < LINE_LEN {
-        io::write_all(STDOUT_FILENO, &out[..used]);
+    let mut done = 0;
+    while done < buf.len() {
+        let got = libc::read(fd, &mut buf[done..]);
+        if got < 0 {
+            os::fail(b"setjoin: the input");
+            return done;
+        }
+        let n = io::count(got, &buf[done..]);
+        if n == 0 {
+            return done;
+        }
+        done += n;
+    }
+    done
+}
+
+fn write(text: &[u8]) -> bool {
+    if io::write_all(STDOUT_FILENO, text) {
+        return true;
+    }
+    os::fail(b"setjoin: standard output");
+    false
+}
+
+fn emptied(text: &[u8]) -> Room
+    ensures { λ r. ⌜ usedBy r ≤ 0 ⌝ }
+{
+    if write(text) {
+        return Room::From(0);
+    }
+    Room::Failed
+}
+
+// Writes the text once there is no room for another turn's behind it.
+fn make_room(mode: Mode, out: &[u8], used: usize) -> Room
+    requires { ⌜ used ≤ length (now out) ⌝ }
+    ensures { λ r. ⌜ usedBy r ≤ length (now (out .entry)) ⌝ }
+{
+    match mode {
+        Mode::Data => Room::From(0),
+        Mode::Lines => emptied(&out[..used]),
+        Mode::Listing => {
+            if TEXT_LEN <= out.len() - used {
+                return Room::From(used);
+            }
+            emptied(&out[..used])
+        }
+    }
+}
+
+// Where the last line begins.
+fn last_line(text: &[u8]) -> usize
+    ensures { λ r. ⌜ r ≤ length (now (text .entry)) ⌝ }
+{
+    if text.len() == 0 {
         return 0;
     }
-    used
-}
-
-// The stream stops here: its last line.
-fn stop(out: &mut [u8], used: usize, answer: Answer, at: u64)
-    requires { ⌜ used ≤ length (now out) ⌝ }
-{
-    let used = with_room(out, used);
-    let Put::Bytes(n) = listing::stop_line(&mut out[used..], answer, at) else {
-        return;
-    };
-    let end = used + n;
-    io::write_all(STDOUT_FILENO, &out[..end]);
-}
-
-// The end record: the last lines.
-fn finish(out: &mut [u8], used: usize, joining: Joining, elements: &[u8])
-    requires { ⌜ used ≤ length (now out) ⌝ }
-{
-    io::write_all(STDOUT_FILENO, &out[..used]);
-    let mut data = [0u8; BLOCK_LEN];
-    let Put::Bytes(n) = joining.finish(elements, &mut data, out) else {
-        return;
-    };
-    io::write_all(STDOUT_FILENO, &out[..n]);
-}
-
-// A piece record. Its body is read with the kind byte behind it, so that nothing behind the end record is read.
-fn take(p: Place, g: Geometry, elements: &mut [u8], out: &mut [u8]) -> After
-    requires { ⌜ p .used ≤ length (now out) ⌝ }
-    ensures { λ r. ⌜ usedBy r ≤ length (now (out .exit)) ⌝ }
-{
-    let mut record = io::buffer();
-    let n = g.body_len();
-    let end = n + 1;
-    let got = io::read_full(STDIN_FILENO, &mut record[..end]);
-    if got < n {
-        stop(out, p.used, Answer::CutRecord, p.at);
-        return After::Done;
-    }
-    let used = with_room(out, p.used);
-    let joining = p.joining;
-    match joining.piece(Field::Fips197, g, &record[..n], elements, &mut out[used..]) {
-        Step::Refused(a) => {
-            stop(out, used, a, p.at);
-            After::Done
+    let mut i = text.len() - 1;
+    while 0 < i {
+        if text[i - 1] == b'\n' {
+            return i;
         }
-        Step::Line(joining, size) => {
-            let used = used + size;
-            // no input is as long as this number
-            let at = std::num::wrapping_add_u64(p.at, end as u64);
-            if got == n {
-                stop(out, used, Answer::CutRecord, at);
-                return After::Done;
+        i -= 1;
+    }
+    0
+}
+
+// The last text. With the data alone its last line goes to standard error.
+fn last(mode: Mode, text: &[u8], status: u8) -> u8 {
+    if let Mode::Data = mode {
+        let from = last_line(text);
+        io::write_all(STDERR_FILENO, &text[from..]);
+        return status;
+    }
+    if write(text) { status } else { 2 }
+}
+
+// Rebuilt: the last text, or the data.
+fn rebuilt(mode: Mode, text: &[u8], data: &[u8], n: usize) -> u8 {
+    if let Mode::Data = mode {
+        if n <= data.len() {
+            if write(&data[..n]) {
+                return 0;
             }
-            After::Next(Place {
-                kind: record[n],
-                at,
-                seen: Seen::Pieces(g),
-                joining,
-                used,
-            })
         }
+        return 2;
+    }
+    last(mode, text, 0)
+}
+
+// 0 for data that were rebuilt, 1 for none, 2 for a stream that stops.
+fn end(place: Place, mode: Mode, text: &[u8], data: &[u8]) -> u8 {
+    let Place::Done(ending) = place else {
+        return 2;
+    };
+    match ending {
+        Ending::Rebuilt(n) => rebuilt(mode, text, data, n),
+        Ending::Open => last(mode, text, 1),
+        Ending::Stopped => last(mode, text, 2),
     }
 }
 
-// One record.
-fn turn(p: Place, elements: &mut [u8], out: &mut [u8]) -> After
-    requires { ⌜ p .used ≤ length (now out) ⌝ }
-    ensures { λ r. ⌜ usedBy r ≤ length (now (out .exit)) ⌝ }
+// Read, feed, write. A proved loop has to end, and nothing says that an input does: so the turns are counted down from a number that no input
+// uses up.
+fn run(
+    fd: i32,
+    mode: Mode,
+    input: &mut [u8],
+    elements: &mut [u8],
+    data: &mut [u8],
+    out: &mut [u8],
+) -> u8
+    requires { ⌜ 513 ≤ length (now input) ⌝ }
 {
-    let seen = p.seen;
-    let joining = p.joining;
-    match stream::read_kind(seen, p.kind, BODY_LEN) {
-        Record::Piece(g) => take(p, g, elements, out),
-        Record::End => {
-            finish(out, p.used, joining, elements);
-            After::Done
-        }
-        Record::Refused(a) => {
-            stop(out, p.used, a, p.at);
-            After::Done
-        }
-    }
-}
-
-// The records one after the other. A proved loop has to end, and nothing says that an input does: so the turns are counted down from a
-// number that no input uses up.
-fn records(first: Place, elements: &mut [u8], out: &mut [u8])
-    requires { ⌜ first .used ≤ length (now out) ⌝ }
-{
-    let mut p = first;
+    let mut m = Machine::new();
+    let mut used = 0;
     let mut turns = u64::MAX;
     while turns > 0 {
-        let After::Next(next) = turn(p, elements, out) else {
-            return;
+        let want = m.wants();
+        if want == 0 {
+            let place = m.place;
+            return end(place, mode, &out[..used], data);
+        }
+        let Room::From(from) = make_room(mode, out, used) else {
+            return 2;
         };
-        p = next;
+        let got = read(fd, &mut input[..want]);
+        let Fed::Text(next, size) = m.feed(
+            Field::Fips197,
+            &input[..got],
+            elements,
+            data,
+            &mut out[from..],
+        ) else {
+            return 2;
+        };
+        m = next;
+        used = from + size;
         turns -= 1;
     }
+    2
 }
 
-fn join() {
+fn join(fd: i32, mode: Mode) -> u8 {
+    let mut input = [0u8; INPUT_LEN];
     let mut elements = [0u8; MATRIX_LEN];
+    let mut data = [0u8; BLOCK_LEN];
     let mut out = io::large_buffer();
-    let Put::Bytes(used) = listing::header_line(&mut out) else {
-        return;
-    };
-    let mut kind = [0u8; 1];
-    if io::read_full(STDIN_FILENO, &mut kind) == 0 {
-        stop(&mut out, used, Answer::CutRecord, 0);
-        return;
-    }
-    let first = Place {
-        kind: kind[0],
-        at: 0,
-        seen: Seen::Nothing,
-        joining: Joining::new(),
-        used,
-    };
-    records(first, &mut elements, &mut out);
+    run(fd, mode, &mut input, &mut elements, &mut data, &mut out)
 }
 
-// With any argument it says what it is for.
-fn main() {
-    if 1 < os::arg_count() {
-        help::help();
-        return;
+fn mode_of(data: bool) -> Mode {
+    if data {
+        return Mode::Data;
     }
-    join();
+    if libc::isatty(STDOUT_FILENO) == 1 {
+        return Mode::Lines;
+    }
+    Mode::Listing
+}
+
+// The status of a call.
+fn answer(call: Call) -> u8 {
+    match call {
+        Call::Help => {
+            help::help();
+            0
+        }
+        Call::Wrong => {
+            io::write_all(
+                STDERR_FILENO,
+                b"setjoin: usage: setjoin [--data] [FILE]; see setjoin --help\n",
+            );
+            2
+        }
+        Call::Join(data, file) => {
+            if file == 0 {
+                return join(STDIN_FILENO, mode_of(data));
+            }
+            let fd = call::open(file);
+            if fd < 0 {
+                return 2;
+            }
+            join(fd, mode_of(data))
+        }
+    }
+}
+
+fn report(status: u8) {
+    match status {
+        0 => io::write_all(3, b"0"),
+        1 => io::write_all(3, b"1"),
+        _ => io::write_all(3, b"2"),
+    }
+    ;
+}
+
+// The status goes to descriptor 3 as a digit, where the wrapper asks for it by the first argument: a program of this kind has no other.
+fn main() {
+    let asked = call::asks_status();
+    let status = answer(call::read(asked));
+    if asked {
+        report(status);
+    }
 }
