@@ -23,7 +23,7 @@ use Rattle.decoder.specs.declared.Complete.{Complete}
 use Rattle.decoder.specs.declared.Complete.the-variants as complete
 use Rattle.decoder.specs.declared.Recovered.{Recovered}
 use Rattle.decoder.specs.declared.Recovered.the-variants as recovered
-use Rattle.decoder.specs.Records.{kOf, LOf, FOf, rowsIn, takenBy, sound, badState, heldRows}
+use Rattle.decoder.specs.Records.{kOf, LOf, FOf, rowsIn, takenBy, takenLimit, sound, badState, heldRows}
 
 -- the record of k pieces of L bytes with these counts
 abbrev pub decoderOf : ℕ → ℕ → ℕ → ℕ → Decoder
@@ -49,7 +49,7 @@ takeRefusal d room size =
     pick (badState d room) BadState
     (pick (eqb (rowsIn d) (kOf d)) ReceivedAllPieces
     (pick (not (eqb size (FOf d))) InvalidPieceLength
-    (pick (leb 65535 (takenBy d)) TooManyTaken Ok)))
+    (pick (leb takenLimit (takenBy d)) TooManyTaken Ok)))
 
 -- the rows after the piece
 unfoldable pub rowsAfter : FieldLaws → Decoder → List ℕ → List ℕ → List (List ℕ)

@@ -23,9 +23,13 @@ rowsIn d = d .«useful_piece_count» .0
 abbrev pub takenBy : Decoder → ℕ
 takenBy d = d .«received_piece_count» .0
 
+-- "TooManyTaken: 65,535 pieces were taken already"
+abbrev pub takenLimit : ℕ
+takenLimit = 65535
+
 -- the numbers of a record are good: sizes within the limits; not "rows > k, rows > taken, or taken > 65,535"
 unfoldable pub sound : Decoder → Bool
-sound d = sized (kOf d) (LOf d) && (leb (rowsIn d) (kOf d) && (leb (rowsIn d) (takenBy d) && leb (takenBy d) 65535))
+sound d = sized (kOf d) (LOf d) && (leb (rowsIn d) (kOf d) && (leb (rowsIn d) (takenBy d) && leb (takenBy d) takenLimit))
 
 -- 22: bad numbers, "or a lent buffer shorter than the record needs"
 unfoldable pub badState : Decoder → ℕ → Bool
