@@ -5,6 +5,7 @@ pub mod Example
 pub mod Hex
 pub mod OneResult
 pub mod Putting
+pub mod Room
 pub mod Short
 pub mod Stepping
 pub mod Taking
