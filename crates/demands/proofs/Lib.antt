@@ -6,4 +6,5 @@ pub mod EndToEnd
 pub mod Witness
 pub mod Worked
 pub mod Resumed
+pub mod Fed
 pub mod Purpose

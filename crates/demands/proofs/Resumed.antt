@@ -85,7 +85,7 @@ module _ (d : Decoder) (a b : List ℕ) (h : Alike d a b) where
 
 -- ---- all that follows
 
-lines-alike : (𝓕 : FieldLaws) (later : Stream) (d : Decoder) (a b : List ℕ) → Alike d a b
+pub lines-alike : (𝓕 : FieldLaws) (later : Stream) (d : Decoder) (a b : List ℕ) → Alike d a b
     → (n m : ℕ) → linesFrom 𝓕 (goingOn d n m) a later ≡ linesFrom 𝓕 (goingOn d n m) b later
 unfolding linesFrom lineFor joinedAfter elementsAfter decoderAfter answerTo decoderFor matrixFor joined lineOf
 lines-alike 𝓕 (piece g full later) d a b h n m =
