@@ -54,7 +54,7 @@ module _ {𝓕 : FieldLaws} {k L : ℕ} {d : Decoder} {elements : List ℕ} {pie
   unfolding heldRows
   held-count = length-rowsOf (FOf d) (rowsIn d) elements
 
-  told : completed d ≡ complete.Of (eqb (rowsIn d) (kOf d))
+  pub told : completed d ≡ complete.Of (eqb (rowsIn d) (kOf d))
   unfolding completed
   told = rw fine
 

@@ -37,12 +37,12 @@ use Rattle.demands.specs.Demand3.{Closed}
 use Rattle.demands.specs.History.{History, made, useful, notUseful}
 use Rattle.demands.specs.Purpose.{heard, Another}
 use Rattle.demands.proofs.History.{Kept, kept}
-use Rattle.demands.proofs.Demand3.{closed-told, complete-rows, the-block, recovers, demand3}
+use Rattle.demands.proofs.Demand3.{closed-told, told, complete-rows, the-block, recovers, demand3}
 
 -- ---- the order of the pieces is nothing to the blocks that agree with them
 
 module _ {A : Type 0} {P : A → Type 0} where
-  all-turned : (xs ys : List A) → All P xs → All P ys → All P (reverseAux xs ys)
+  pub all-turned : (xs ys : List A) → All P xs → All P ys → All P (reverseAux xs ys)
   all-turned [] ys h k = k
   all-turned (x ∷ xs) ys h k = all-turned xs (x ∷ ys) (all-tail h) (more (all-head h) k)
 
@@ -76,15 +76,14 @@ module _ {𝓕 : FieldLaws} {k L : ℕ} {block fed : List (List ℕ)} {d : Decod
   unfolding badState
   good = rw (shown d (it .numbers), le-ltb (length elements) (kOf d * FOf d) (it .room))
 
-  told : completed d ≡ complete.Of (eqb (rowsIn d) (kOf d))
-  unfolding completed
-  told = rw (shown d (it .numbers))
-
   rows-closed : eqb (rowsIn d) (kOf d) ≡ true → Closed d
-  rows-closed e = closed-told (completed d) .1 (told ∙ ap complete.Of e)
+  rows-closed e = closed-told (completed d) .1 (told (s .history) ∙ ap complete.Of e)
 
   rows-open : eqb (rowsIn d) (kOf d) ≡ false → completed d ≡ complete.Of true → ⊥
-  rows-open e c = let same : true ≡ false = (let now = told in cc) in let never : _≡_ {A = ℕ} 0 1 = cc in omega arith
+  rows-open e c =
+      let same : complete.Of true ≡ complete.Of false = sym c ∙ told (s .history) ∙ ap complete.Of e in
+      let never : _≡_ {A = ℕ} 0 1 = cc in
+      omega arith
 
   -- an open decoder took all of them
   took-all : eqb (rowsIn d) (kOf d) ≡ false → s .taken ≡ fed
@@ -193,7 +192,7 @@ module _ {𝓕 : FieldLaws} {k L : ℕ} {block fed : List (List ℕ)} {d : Decod
             → ((recoverRefusal marker d elements room ≡ Ok) × (take (dataLength (reading marker (blockIn d elements))) (blockIn d elements) ≡ bytes) × Unique 𝓕 k L fed block)
             ⊎ ((recoverRefusal marker d elements room ≡ NotAllPiecesReceivedYet) × Another 𝓕 k L fed block)
         go true e =
-            let c : completed d ≡ complete.Of true = told ∙ ap complete.Of e in
+            let c : completed d ≡ complete.Of true = told (s .history) ∙ ap complete.Of e in
             let (reads, front) = reads-data marker (flat block) bytes .0 y in
             let same : blockIn d elements ≡ flat block = the-block (s .history) block b (s .agrees) c in
             inl (

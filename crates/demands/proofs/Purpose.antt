@@ -43,11 +43,18 @@ use Rattle.demands.proofs.Fed.{Fed, recovery, nothing-yet, recordAfter,
 
 -- ---- the listing in the numbers of `decode`
 
-module _ (𝓕 : FieldLaws) (g : Geometry) where
-  -- the end, after so many repeats
-  abbrev endOf : Decoder → List ℕ → ℕ → List ℕ
-  endOf d elements repeats = endLines (goingOn d 0 repeats) elements blockRoom
+-- the end, after so many repeats
+abbrev endOf : Decoder → List ℕ → ℕ → List ℕ
+endOf d elements repeats = endLines (goingOn d 0 repeats) elements blockRoom
 
+-- a new decoder of the geometry, and its matrix
+abbrev newOf : Geometry → Decoder
+newOf g = decoderOf (piecesOf g) (lengthOf g) 0 0
+
+abbrev clearOf : Geometry → List ℕ
+clearOf g = replicate (piecesOf g * bodyOf g) 0
+
+module _ (𝓕 : FieldLaws) (g : Geometry) where
   -- the lines of some pieces, and the end
   lines-are : (ps : List (List ℕ)) (d : Decoder) (elements : List ℕ) (n m : ℕ)
       → linesFrom 𝓕 (goingOn d n m) elements (ofPieces g ps)
@@ -66,14 +73,8 @@ module _ (𝓕 : FieldLaws) (g : Geometry) where
       ∙ ap (λ (r : ℕ). line ++ (later ++ endOf (recordAfter 𝓕 D E ps) (bufferAfter 𝓕 D E ps) r)) (add-assoc m repeat (eights (lines 𝓕 D E ps)))
       ∙ sym (append-assoc line later (endOf (recordAfter 𝓕 D E ps) (bufferAfter 𝓕 D E ps) (m + (repeat + eights (lines 𝓕 D E ps)))))
 
-  abbrev new-one : Decoder
-  new-one = decoderOf (piecesOf g) (lengthOf g) 0 0
-
-  abbrev clear : List ℕ
-  clear = replicate (piecesOf g * bodyOf g) 0
-
   -- the first piece makes the decoder; of its matrix the bytes behind k·F are never read
-  alike : Alike new-one (matrixFor g held.Nothing (replicate matrixLength 0)) clear
+  alike : Alike (newOf g) (matrixFor g held.Nothing (replicate matrixLength 0)) (clearOf g)
   unfolding matrixFor heldRows rowsOf
   alike = record {
     here = simp (length-append, length-replicate, length-drop) (omega (arith, matrix-fits g));
@@ -81,11 +82,11 @@ module _ (𝓕 : FieldLaws) (g : Geometry) where
     rows = refl;
   }
 
-  begins : (ps : List (List ℕ)) → endAnswer (held.Of new-one) clear blockRoom ≡ NotAllPiecesReceivedYet
-      → linesFrom 𝓕 nothing (replicate matrixLength 0) (ofPieces g ps) ≡ linesFrom 𝓕 (goingOn new-one 0 0) clear (ofPieces g ps)
+  begins : (ps : List (List ℕ)) → endAnswer (held.Of (newOf g)) (clearOf g) blockRoom ≡ NotAllPiecesReceivedYet
+      → linesFrom 𝓕 nothing (replicate matrixLength 0) (ofPieces g ps) ≡ linesFrom 𝓕 (goingOn (newOf g) 0 0) (clearOf g) (ofPieces g ps)
   unfolding linesFrom ofPieces endLines endAnswer lineFor joinedAfter elementsAfter decoderAfter answerTo decoderFor matrixFor joined lineOf
   begins [] e = rw e
-  begins (p ∷ ps) e = lines-alike 𝓕 (ofPieces g (p ∷ ps)) new-one (matrixFor g held.Nothing (replicate matrixLength 0)) clear alike 0 0
+  begins (p ∷ ps) e = lines-alike 𝓕 (ofPieces g (p ∷ ps)) (newOf g) (matrixFor g held.Nothing (replicate matrixLength 0)) (clearOf g) alike 0 0
 
 -- ---- the block of the data
 
@@ -109,7 +110,7 @@ module _ (𝓕 : FieldLaws) (g : Geometry) (bytes : List ℕ) (pieces : List (Li
   -- ---- the end of the listing
 
   abbrev D : Decoder
-  D = recordAfter 𝓕 (new-one 𝓕 g) (clear 𝓕 g) pieces
+  D = recordAfter 𝓕 (newOf g) (clearOf g) pieces
 
   abbrev E : List ℕ
   E = bufferFromNew 𝓕 (piecesOf g) (lengthOf g) pieces
@@ -117,14 +118,14 @@ module _ (𝓕 : FieldLaws) (g : Geometry) (bytes : List ℕ) (pieces : List (Li
   abbrev repeats : ℕ
   repeats = repeatsIn 𝓕 g pieces
 
-  listed : (behind text : List ℕ) → endOf 𝓕 g D E repeats ≡ text → listingOf 𝓕 (sent g pieces behind) ≡ headerLine ++ (pieceLines 𝓕 g pieces ++ text)
+  listed : (behind text : List ℕ) → endOf D E repeats ≡ text → listingOf 𝓕 (sent g pieces behind) ≡ headerLine ++ (pieceLines 𝓕 g pieces ++ text)
   unfolding listingOf pieceLines repeatsIn linesFromNew bufferFromNew endAnswer
   listed behind text e =
       ap (λ l. headerLine ++ linesFrom 𝓕 nothing (replicate matrixLength 0) l) (round-trip g behind pieces (x .sizes))
       ∙ ap (λ (l : List ℕ). headerLine ++ l)
       (begins 𝓕 g pieces (nothing-yet 𝓕 (piecesOf g) (lengthOf g) [] (new-fits g (piecesOf g * bodyOf g) (omega arith)) blockRoom)
-      ∙ lines-are 𝓕 g pieces (new-one 𝓕 g) (clear 𝓕 g) 0 0
-      ∙ ap (λ (l : List ℕ). pieceLines 𝓕 g pieces ++ l) (ap (endOf 𝓕 g D E) (zero-add repeats) ∙ e))
+      ∙ lines-are 𝓕 g pieces (newOf g) (clearOf g) 0 0
+      ∙ ap (λ (l : List ℕ). pieceLines 𝓕 g pieces ++ l) (ap (endOf D E) (zero-add repeats) ∙ e))
 
   fed : Fed 𝓕 (piecesOf g) (lengthOf g) (blockOf g bytes) (reverse (heard pieces)) D E
   fed = fed-from-new 𝓕 (piecesOf g) (lengthOf g) (blockOf g bytes) (new-fits g (piecesOf g * bodyOf g) (omega arith)) pieces (x .sizes) (x .piece-bytes) (x .truthful)

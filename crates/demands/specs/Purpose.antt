@@ -27,14 +27,14 @@ blockOf g bytes = rowsOf (lengthOf g) (piecesOf g) (filled marker (piecesOf g * 
 abbrev pub heard : List (List ℕ) → List (List ℕ)
 heard pieces = take takenLimit pieces
 
--- "nonempty data that fit", and pieces of the geometry's size, of which those of the second list are "truthful for the padded block"
-pub record Sends (𝓕 : FieldLaws) (g : Geometry) (bytes : List ℕ) (pieces told : List (List ℕ)) : Type 0 where
+-- "nonempty data that fit", and pieces of the geometry's size, of which those that count are "truthful for the padded block"
+pub record Sends (𝓕 : FieldLaws) (g : Geometry) (bytes : List ℕ) (pieces counted : List (List ℕ)) : Type 0 where
   pub some : 0 < length bytes
   pub fits : length bytes < piecesOf g * lengthOf g
   pub data-bytes : Bytes bytes
   pub sizes : All (λ p. length p ≡ bodyOf g) pieces
   pub piece-bytes : All Bytes pieces
-  pub truthful : Agrees 𝓕 (piecesOf g) (lengthOf g) told (blockOf g bytes)
+  pub truthful : Agrees 𝓕 (piecesOf g) (lengthOf g) counted (blockOf g bytes)
 
 -- their records, the end record, and whatever stands behind it
 abbrev pub sent : Geometry → List (List ℕ) → List ℕ → List ℕ
@@ -67,9 +67,9 @@ pub record Another (𝓕 : FieldLaws) (k L : ℕ) (pieces block : List (List ℕ
 
 -- "a stream of pieces truthful for the padded block that leave no other block, ended by an end record, has a listing that ends with `end 0`, the
 -- length, the repeats and the data in hexadecimal; and where another block is left, with `end 10`". One of the two is so
-pub record Purpose (𝓕 : FieldLaws) (g : Geometry) (bytes : List ℕ) (pieces told : List (List ℕ)) : Type 0 where
-  pub rebuilt : Unique 𝓕 (piecesOf g) (lengthOf g) told (blockOf g bytes) → (behind : List ℕ)
+pub record Purpose (𝓕 : FieldLaws) (g : Geometry) (bytes : List ℕ) (pieces counted : List (List ℕ)) : Type 0 where
+  pub rebuilt : Unique 𝓕 (piecesOf g) (lengthOf g) counted (blockOf g bytes) → (behind : List ℕ)
       → listingOf 𝓕 (sent g pieces behind) ≡ headerLine ++ (pieceLines 𝓕 g pieces ++ (endLine 0 (length bytes) (repeatsIn 𝓕 g pieces) ++ dataLine bytes))
-  pub left-open : Another 𝓕 (piecesOf g) (lengthOf g) told (blockOf g bytes) → (behind : List ℕ)
+  pub left-open : Another 𝓕 (piecesOf g) (lengthOf g) counted (blockOf g bytes) → (behind : List ℕ)
       → listingOf 𝓕 (sent g pieces behind) ≡ headerLine ++ (pieceLines 𝓕 g pieces ++ endLine 10 0 (repeatsIn 𝓕 g pieces))
-  pub either : Unique 𝓕 (piecesOf g) (lengthOf g) told (blockOf g bytes) ⊎ Another 𝓕 (piecesOf g) (lengthOf g) told (blockOf g bytes)
+  pub either : Unique 𝓕 (piecesOf g) (lengthOf g) counted (blockOf g bytes) ⊎ Another 𝓕 (piecesOf g) (lengthOf g) counted (blockOf g bytes)
