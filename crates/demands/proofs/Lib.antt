@@ -8,3 +8,4 @@ pub mod Worked
 pub mod Resumed
 pub mod Fed
 pub mod Purpose
+pub mod PurposeWitness

@@ -55,7 +55,7 @@ abbrev below : List ℕ → Bool
 below [] = true
 below (x ∷ xs) = both (ltb x 256) (below xs)
 
-bytes-of : (xs : List ℕ) → T (below xs) → Bytes xs
+pub bytes-of : (xs : List ℕ) → T (below xs) → Bytes xs
 bytes-of [] t = none
 bytes-of (x ∷ xs) t = more (ltb→lt x 256 (both-left (ltb x 256) (below xs) t)) (bytes-of xs (both-right (ltb x 256) (below xs) t))
 
@@ -98,7 +98,7 @@ the-block = record {
 }
 
 -- byte by byte
-truthful : (block : List (List ℕ)) (full : List ℕ) → getD full 3 0 ≡ dot fips (take 3 full) (column 0 block) → getD full 4 0 ≡ dot fips (take 3 full) (column 1 block)
+pub truthful : (block : List (List ℕ)) (full : List ℕ) → getD full 3 0 ≡ dot fips (take 3 full) (column 0 block) → getD full 4 0 ≡ dot fips (take 3 full) (column 1 block)
     → Truthful fips 3 2 block full
 unfolding Truthful
 truthful block full a b zero h = a

@@ -6,3 +6,4 @@ pub mod Witness
 pub mod Worked
 pub mod Resumed
 pub mod Purpose
+pub mod PurposeWitness
