@@ -1,18 +1,9 @@
-// The arguments.
+// The words of the call. What a user types is the wrapper's to read.
 
-// What is asked for: the data alone or not, and the number of the argument that names the file, 0 for standard input.
+// The listing, the data alone, or words that are not known.
 pub(crate) enum Call {
-    Help,
-    Wrong,
-    Join(bool, usize),
-}
-
-// An argument.
-enum Word {
-    Help,
+    Listing,
     Data,
-    Input,
-    File,
     Unknown,
 }
 
@@ -30,75 +21,28 @@ fn same(a: &[u8], b: &[u8]) -> bool {
     true
 }
 
-fn told_by(text: &[u8]) -> Word {
-    if same(text, b"--help") {
-        return Word::Help;
-    }
-    if same(text, b"--data") {
-        return Word::Data;
-    }
-    if same(text, b"-") {
-        return Word::Input;
-    }
-    if text.len() == 0 {
-        return Word::Unknown;
-    }
-    if text[0] == b'-' {
-        return Word::Unknown;
-    }
-    Word::File
-}
-
-fn word_at(i: usize) -> Word {
+fn is_word(i: usize, word: &[u8]) -> bool {
     let mut buf = io::buffer();
     let n = os::arg(i, &mut buf);
-    told_by(&buf[..n])
+    same(&buf[..n], word)
 }
 
-// Whether the first argument asks for the status.
+// Whether the status is to be reported on descriptor 3, which the first word says.
 pub(crate) fn asks_status() -> bool {
-    let mut buf = io::buffer();
-    let n = os::arg(1, &mut buf);
-    same(&buf[..n], b"--status-fd=3")
+    is_word(1, b"--status-fd=3")
 }
 
-// An option may stand first; then there is one file, or none.
-pub(crate) fn read(asked: bool) -> Call {
-    let first = if asked { 2 } else { 1 };
+// What is asked for by the words from this one on.
+pub(crate) fn read(first: usize) -> Call {
     let count = os::arg_count();
     if count <= first {
-        return Call::Join(false, 0);
+        return Call::Listing;
     }
-    match word_at(first) {
-        Word::Help => Call::Help,
-        Word::Data => named(true, first + 1, count),
-        Word::Input => named(false, first, count),
-        Word::File => named(false, first, count),
-        Word::Unknown => Call::Wrong,
+    if 1 < count - first {
+        return Call::Unknown;
     }
-}
-
-fn named(data: bool, at: usize, count: usize) -> Call {
-    if count <= at {
-        return Call::Join(data, 0);
+    if is_word(first, b"--data") {
+        return Call::Data;
     }
-    if at + 1 < count {
-        return Call::Wrong;
-    }
-    match word_at(at) {
-        Word::Input => Call::Join(data, 0),
-        Word::File => Call::Join(data, at),
-        _ => Call::Wrong,
-    }
-}
-
-// Opens the file that an argument names.
-pub(crate) fn open(i: usize) -> i32 {
-    let mut buf = io::buffer();
-    let n = os::arg(i, &mut buf);
-    let fd = os::open_read(&buf[..n]);
-    if fd < 0 {
-        os::fail(&buf[..n]);
-    }
-    fd
+    Call::Unknown
 }

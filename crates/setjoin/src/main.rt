@@ -1,45 +1,43 @@
-// Reads a piece stream and prints its listing, or the data alone. What is read next and what is printed is decided by the machine of `pump`; here
-// bytes are read, fed and written.
+// Joins the piece stream on standard input: prints its listing, or the data alone. What is read next and what is printed is decided by the machine of
+// `joiner`; here bytes are read, fed and written.
 ghost use Prim.Native.Nat.{_≤_};
 ghost use lib.ListN.{length};
-ghost use Rattle.setjoin.specs.Used.{usedBy};
+ghost use Rattle.setjoin.specs.Used.{usedBy, putBy};
 use call::Call;
 use field::Field;
+use joiner::BLOCK_LEN;
+use joiner::Ending;
+use joiner::Fed;
+use joiner::Joiner;
+use joiner::MATRIX_LEN;
+use joiner::TEXT_LEN;
 use libc::STDERR_FILENO;
 use libc::STDIN_FILENO;
 use libc::STDOUT_FILENO;
-use pump::BLOCK_LEN;
-use pump::Ending;
-use pump::Fed;
-use pump::INPUT_LEN;
-use pump::MATRIX_LEN;
-use pump::Machine;
-use pump::Place;
-use pump::TEXT_LEN;
+use reader::INPUT_LEN;
 
 mod call;
-mod help;
 
-// What is written: the listing, a line as soon as it is known, or the data alone.
+// What is written: the listing, each line as soon as it is known, or the data alone.
 enum Mode {
     Listing,
     Lines,
     Data,
 }
 
-// How much of the output buffer is used, or that it could not be written.
+// How much of the text buffer is used, or that it could not be written.
 enum Room {
     From(usize),
     Failed,
 }
 
 // Fills the buffer, or reads to the end of the input. A read that fails says so, and then counts as the end.
-fn read(fd: i32, buf: &mut [u8]) -> usize
+fn read(buf: &mut [u8]) -> usize
     ensures { λ r. ⌜ r ≤ length (now (buf .exit)) ⌝ }
 {
     let mut done = 0;
     while done < buf.len() {
-        let got = libc::read(fd, &mut buf[done..]);
+        let got = libc::read(STDIN_FILENO, &mut buf[done..]);
         if got < 0 {
             os::fail(b"setjoin: the input");
             return done;
@@ -61,16 +59,7 @@ fn write(text: &[u8]) -> bool {
     false
 }
 
-fn emptied(text: &[u8]) -> Room
-    ensures { λ r. ⌜ usedBy r ≤ 0 ⌝ }
-{
-    if write(text) {
-        return Room::From(0);
-    }
-    Room::Failed
-}
-
-// Writes the text once there is no room for another turn's behind it.
+// Writes the text out where a turn's might have no room behind it, or at once.
 fn make_room(mode: Mode, out: &[u8], used: usize) -> Room
     requires { ⌜ used ≤ length (now out) ⌝ }
     ensures { λ r. ⌜ usedBy r ≤ length (now (out .entry)) ⌝ }
@@ -87,158 +76,120 @@ fn make_room(mode: Mode, out: &[u8], used: usize) -> Room
     }
 }
 
-// Where the last line begins.
-fn last_line(text: &[u8]) -> usize
-    ensures { λ r. ⌜ r ≤ length (now (text .entry)) ⌝ }
+fn emptied(text: &[u8]) -> Room
+    ensures { λ r. ⌜ usedBy r ≤ 0 ⌝ }
 {
-    if text.len() == 0 {
-        return 0;
+    if write(text) {
+        return Room::From(0);
     }
-    let mut i = text.len() - 1;
-    while 0 < i {
-        if text[i - 1] == b'\n' {
-            return i;
-        }
-        i -= 1;
-    }
-    0
+    Room::Failed
 }
 
-// The last text. With the data alone its last line goes to standard error.
-fn last(mode: Mode, text: &[u8], status: u8) -> u8 {
-    if let Mode::Data = mode {
-        let from = last_line(text);
-        io::write_all(STDERR_FILENO, &text[from..]);
-        return status;
-    }
-    if write(text) { status } else { 2 }
+// Reads what the machine wants, and feeds it.
+fn turn(m: Joiner, input: &mut [u8], elements: &mut [u8], data: &mut [u8], out: &mut [u8]) -> Fed
+    requires { ⌜ 513 ≤ length (now input) ⌝ }
+    ensures { λ r. ⌜ putBy r ≤ length (now (out .exit)) ⌝ }
+{
+    let want = m.wants();
+    let got = read(&mut input[..want]);
+    m.feed(Field::Fips197, &input[..got], elements, data, out)
 }
 
-// Rebuilt: the last text, or the data.
-fn rebuilt(mode: Mode, text: &[u8], data: &[u8], n: usize) -> u8 {
-    if let Mode::Data = mode {
-        if n <= data.len() {
-            if write(&data[..n]) {
-                return 0;
-            }
-        }
-        return 2;
-    }
-    last(mode, text, 0)
-}
-
-// 0 for data that were rebuilt, 1 for none, 2 for a stream that stops.
-fn end(place: Place, mode: Mode, text: &[u8], data: &[u8]) -> u8 {
-    let Place::Done(ending) = place else {
-        return 2;
-    };
-    match ending {
-        Ending::Rebuilt(n) => rebuilt(mode, text, data, n),
-        Ending::Open => last(mode, text, 1),
-        Ending::Stopped => last(mode, text, 2),
-    }
-}
-
-// Read, feed, write. A proved loop has to end, and nothing says that an input does: so the turns are counted down from a number that no input
-// uses up.
-fn run(
-    fd: i32,
-    mode: Mode,
-    input: &mut [u8],
-    elements: &mut [u8],
-    data: &mut [u8],
-    out: &mut [u8],
-) -> u8
+// Read, feed, write, until the machine wants nothing. A proved loop has to end, and nothing says that an input does: so the turns are counted down
+// from a number that no input uses up.
+fn run(mode: Mode, input: &mut [u8], elements: &mut [u8], data: &mut [u8], out: &mut [u8]) -> u8
     requires { ⌜ 513 ≤ length (now input) ⌝ }
 {
-    let mut m = Machine::new();
+    let mut m = Joiner::new();
     let mut used = 0;
     let mut turns = u64::MAX;
     while turns > 0 {
-        let want = m.wants();
-        if want == 0 {
-            let place = m.place;
-            return end(place, mode, &out[..used], data);
-        }
         let Room::From(from) = make_room(mode, out, used) else {
             return 2;
         };
-        let got = read(fd, &mut input[..want]);
-        let Fed::Text(next, size) = m.feed(
-            Field::Fips197,
-            &input[..got],
-            elements,
-            data,
-            &mut out[from..],
-        ) else {
+        let Fed::Text(next, n, size) = turn(m, input, elements, data, &mut out[from..]) else {
             return 2;
         };
         m = next;
-        used = from + size;
+        let last = from + n;
+        used = last + size;
+        if m.wants() == 0 {
+            let ending = m.ending;
+            return end(mode, ending, &out[..used], last, data);
+        }
         turns -= 1;
     }
     2
 }
 
-fn join(fd: i32, mode: Mode) -> u8 {
+// The end: 0 for a set that was rebuilt, 1 for one that was not, 2 for a stream that stopped. The last lines begin at `last`.
+fn end(mode: Mode, ending: Ending, text: &[u8], last: usize, data: &[u8]) -> u8
+    requires { ⌜ last ≤ length (now text) ⌝ }
+{
+    match ending {
+        Ending::Rebuilt(n) => rebuilt(mode, text, data, n),
+        Ending::Open => not_rebuilt(mode, text, last, 1),
+        _ => not_rebuilt(mode, text, last, 2),
+    }
+}
+
+fn rebuilt(mode: Mode, text: &[u8], data: &[u8], n: usize) -> u8 {
+    let written = match mode {
+        Mode::Data => {
+            if data.len() < n {
+                return 2;
+            }
+            write(&data[..n])
+        }
+        _ => write(text),
+    };
+    if written { 0 } else { 2 }
+}
+
+fn not_rebuilt(mode: Mode, text: &[u8], last: usize, status: u8) -> u8
+    requires { ⌜ last ≤ length (now text) ⌝ }
+{
+    let written = match mode {
+        Mode::Data => io::write_all(STDERR_FILENO, &text[last..]),
+        _ => write(text),
+    };
+    if written { status } else { 2 }
+}
+
+fn join(mode: Mode) -> u8 {
     let mut input = [0u8; INPUT_LEN];
     let mut elements = [0u8; MATRIX_LEN];
     let mut data = [0u8; BLOCK_LEN];
     let mut out = io::large_buffer();
-    run(fd, mode, &mut input, &mut elements, &mut data, &mut out)
-}
-
-fn mode_of(data: bool) -> Mode {
-    if data {
-        return Mode::Data;
-    }
-    if libc::isatty(STDOUT_FILENO) == 1 {
-        return Mode::Lines;
-    }
-    Mode::Listing
+    run(mode, &mut input, &mut elements, &mut data, &mut out)
 }
 
 // The status of a call.
 fn answer(call: Call) -> u8 {
     match call {
-        Call::Help => {
-            help::help();
-            0
+        Call::Listing => {
+            if libc::isatty(STDOUT_FILENO) == 1 {
+                return join(Mode::Lines);
+            }
+            join(Mode::Listing)
         }
-        Call::Wrong => {
+        Call::Data => join(Mode::Data),
+        Call::Unknown => {
             io::write_all(
                 STDERR_FILENO,
-                b"setjoin: usage: setjoin [--data] [FILE]; see setjoin --help\n",
+                b"setjoin: unknown words; use bin/setjoin, which reads a user's\n",
             );
             2
         }
-        Call::Join(data, file) => {
-            if file == 0 {
-                return join(STDIN_FILENO, mode_of(data));
-            }
-            let fd = call::open(file);
-            if fd < 0 {
-                return 2;
-            }
-            join(fd, mode_of(data))
-        }
     }
 }
 
-fn report(status: u8) {
-    match status {
-        0 => io::write_all(3, b"0"),
-        1 => io::write_all(3, b"1"),
-        _ => io::write_all(3, b"2"),
-    }
-    ;
-}
-
-// The status goes to descriptor 3 as a digit, where the wrapper asks for it by the first argument: a program of this kind has no other.
+// A program of this kind has no status: where the first word asks for it, it goes to descriptor 3 as a digit.
 fn main() {
-    let asked = call::asks_status();
-    let status = answer(call::read(asked));
-    if asked {
-        report(status);
+    if !call::asks_status() {
+        answer(call::read(1));
+        return;
     }
+    let status = answer(call::read(2));
+    io::write_all(3, &[b'0' + status % 3]);
 }

@@ -16,10 +16,10 @@ use borrow.Rule.Slice.PartMut.{putMid, same-len-mid}
 use Rattle.setjoin.proofs.Within.{sum-in}
 
 abbrev Inv-loop : tie.InvT-loop
-Inv-loop fd buf₀ done₀ t6 buf done = (length buf ≡ length buf₀) × (done ≤ length buf)
+Inv-loop buf₀ done₀ t6 buf done = (length buf ≡ length buf₀) × (done ≤ length buf)
 
 abbrev μ-loop : tie.MeasureT-loop
-μ-loop fd buf₀ done₀ t6 buf done = length buf - done
+μ-loop buf₀ done₀ t6 buf done = length buf - done
 
 loop-holds : tie.Need-loop-holds Inv-loop μ-loop
 loop-holds c =

@@ -1,0 +1,7 @@
+pub mod Fronts
+pub mod Ends
+pub mod Begins
+pub mod Turns
+pub mod Prints
+pub mod Tells
+pub mod OneResult

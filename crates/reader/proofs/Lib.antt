@@ -1,0 +1,4 @@
+pub mod Reading
+pub mod ByKind
+pub mod Turns
+pub mod Pump
