@@ -1,8 +1,9 @@
-//! A piece stream read by the paper's rules, and its listing with the answers of the Rust's decoder.
+//! A piece stream read by the paper's rules: its listing with the answers of the Rust's decoder, and the script of the calls that it makes.
 use crate::drawn::damage;
 use crate::drive::number;
 use crate::paper;
-use crate::parts::{Drawn, piece};
+use crate::parts::{self, Drawn, piece};
+use crate::script::Call;
 use rlnc::full::decoder::Decoder;
 use std::io::Write;
 
@@ -19,16 +20,34 @@ fn geometry(kind: u8) -> Option<(usize, usize)> {
 /// Why a stream stops, and the offset of the record.
 struct Stop(u8, usize);
 
+/// Hands on the sizes and the body of each whole piece record up to the end record. An unlisted kind is told before a second geometry, and
+/// that before a short body.
+fn records(stream: &[u8], mut take: impl FnMut((usize, usize), &[u8])) -> Result<(), Stop> {
+    let (mut at, mut first) = (0, None);
+    loop {
+        let kind = *stream.get(at).ok_or(Stop(25, at))?;
+        if kind == 0x01 {
+            return Ok(());
+        }
+        let (k, len) = geometry(kind).ok_or(Stop(24, at))?;
+        if *first.get_or_insert(kind) != kind {
+            return Err(Stop(26, at));
+        }
+        take((k, len), stream.get(at + 1..at + 1 + k + len).ok_or(Stop(25, at))?);
+        at += 1 + k + len;
+    }
+}
+
+#[derive(Default)]
 struct Joined {
-    decoder: Option<(u8, Decoder)>,
+    decoder: Option<Decoder>,
     pieces: usize,
     repeats: usize,
 }
 
 impl Joined {
-    fn piece(&mut self, kind: u8, body: &[u8], out: &mut impl Write) {
-        let (k, len) = geometry(kind).expect("a listed kind");
-        let (_, decoder) = self.decoder.get_or_insert_with(|| (kind, Decoder::new(len, k).expect("sizes within the limits")));
+    fn piece(&mut self, (k, len): (usize, usize), body: &[u8], out: &mut impl Write) {
+        let decoder = self.decoder.get_or_insert_with(|| Decoder::new(len, k).expect("sizes within the limits"));
         let spent = !decoder.is_already_decoded() && decoder.get_received_piece_count() == paper::TAKEN_LIMIT;
         let answer = if spent { paper::TOO_MANY_TAKEN } else { decoder.decode(body).map_or_else(number, |()| paper::OK) };
         self.pieces += 1;
@@ -38,7 +57,7 @@ impl Joined {
     }
 
     fn finish(self, out: &mut impl Write) {
-        let recovered = self.decoder.map_or(Err(paper::NOT_ALL_PIECES_RECEIVED_YET), |(_, decoder)| decoder.get_decoded_data().map_err(number));
+        let recovered = self.decoder.map_or(Err(paper::NOT_ALL_PIECES_RECEIVED_YET), |decoder| decoder.get_decoded_data().map_err(number));
         match recovered {
             Err(answer) => writeln!(out, "end {answer} 0 {}", self.repeats),
             Ok(data) => writeln!(out, "end 0 {} {}\n{}", data.len(), self.repeats, crate::script::hex(&data)),
@@ -47,30 +66,33 @@ impl Joined {
     }
 }
 
-/// The records up to the end record. An unlisted kind is told before a second geometry, and that before a short body.
-fn records(stream: &[u8], joined: &mut Joined, out: &mut impl Write) -> Result<(), Stop> {
-    let mut at = 0;
-    loop {
-        let kind = *stream.get(at).ok_or(Stop(25, at))?;
-        if kind == 0x01 {
-            return Ok(());
-        }
-        let (k, len) = geometry(kind).ok_or(Stop(24, at))?;
-        if joined.decoder.as_ref().is_some_and(|(first, _)| *first != kind) {
-            return Err(Stop(26, at));
-        }
-        let body = stream.get(at + 1..at + 1 + k + len).ok_or(Stop(25, at))?;
-        joined.piece(kind, body, out);
-        at += 1 + k + len;
+pub fn run(stream: &[u8], out: &mut impl Write) {
+    writeln!(out, "n answer rows taken").expect("a line is written");
+    let mut joined = Joined::default();
+    match records(stream, |sizes, body| joined.piece(sizes, body, out)) {
+        Ok(()) => joined.finish(out),
+        Err(Stop(answer, at)) => writeln!(out, "stop {answer} {at}").expect("a line is written"),
     }
 }
 
-pub fn run(stream: &[u8], out: &mut impl Write) {
-    writeln!(out, "n answer rows taken").expect("a line is written");
-    let mut joined = Joined { decoder: None, pieces: 0, repeats: 0 };
-    match records(stream, &mut joined, out) {
-        Ok(()) => joined.finish(out),
-        Err(Stop(answer, at)) => writeln!(out, "stop {answer} {at}").expect("a line is written"),
+fn put(call: Call, out: &mut impl Write) {
+    let mut bytes = Vec::new();
+    call.put(&mut bytes);
+    out.write_all(&bytes).expect("a call is written");
+}
+
+/// The calls that a stream makes, as one case: a new decoder, which has to clear its matrix, each piece, and recovery at the end record.
+pub fn script(stream: &[u8], out: &mut impl Write) {
+    parts::begin().into_iter().for_each(|call| put(call, out));
+    let mut sizes = None;
+    let ended = records(stream, |(k, len), body| {
+        if sizes.replace((k, len)).is_none() {
+            put(parts::new_decoder(len, k, &vec![0xee; k * (k + len)]), out);
+        }
+        put(parts::decode(k * (k + len), body), out);
+    });
+    if let (Ok(()), Some((k, len))) = (ended, sizes) {
+        put(parts::recover(k * (k + len), &vec![0; k * len]), out);
     }
 }
 

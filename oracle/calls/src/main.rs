@@ -1,5 +1,6 @@
 //! The Rust's side of the comparison. `make` writes a script of cases, `drive` runs the Rust on it, `differ` holds the two outputs against
-//! each other, `join` prints the listing of a stream, and `streams` writes damaged copies of good ones.
+//! each other. `join` prints the listing of a stream, `script` writes the script of the calls that it makes, `parted` says where two listings
+//! part, and `streams` writes damaged copies of good streams.
 mod decoding;
 mod differ;
 mod drawn;
@@ -61,10 +62,16 @@ fn main() {
             drop(out);
             std::process::exit(differ::run(script, theirs, ours));
         }
+        ["parted", theirs, ours] => {
+            drop(out);
+            differ::parted(theirs, ours);
+        }
         ["join"] => join::run(&input(), &mut out),
+        ["script"] => join::script(&input(), &mut out),
         ["streams", count, seed, folder] => join::streams(number(count), number(seed) as u64, folder),
         _ => {
-            eprintln!("usage: calls make COUNT SEED MOST | drive | differ SCRIPT THEIRS OURS | join | streams COUNT SEED FOLDER");
+            let streams = "join | script | parted THEIRS OURS | streams COUNT SEED FOLDER";
+            eprintln!("usage: calls make COUNT SEED MOST | drive | differ SCRIPT THEIRS OURS | {streams}");
             std::process::exit(2);
         }
     }
