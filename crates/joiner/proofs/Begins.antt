@@ -22,7 +22,8 @@ use Rattle.listing.specs.declared.join.Step.the-variants.{Line, Refused}
 use Rattle.listing.specs.Lines.{headerLine}
 use Rattle.listing.specs.Joining.{joinedAfter, elementsAfter, lineFor}
 use Rattle.listing.specs.Steps.{lineRoom, stepRefusal, Stepped}
-use Rattle.joiner.specs.Machine.{textRoom, State, state, joins, over, Front, Begun}
+use Rattle.joiner.specs.Machine.{textRoom, State, state, joins, over}
+use Rattle.joiner.specs.Parts.{Front, Begun}
 
 -- with room for a line, a step is refused for the same reason whatever the room
 pub same-refusal : (j : Joining) (g : Geometry) (room out : ℕ) → lineRoom ≤ out → stepRefusal j g room out ≡ stepRefusal j g room textRoom

@@ -28,7 +28,8 @@ use Rattle.listing.proofs.OneResult.{one-finished}
 use Rattle.joiner.specs.declared.Ending.{Ending}
 use Rattle.joiner.specs.declared.Ending.the-variants.{NotYet, Rebuilt, Open, Stopped}
 use Rattle.joiner.specs.declared.Closing.{Closing}
-use Rattle.joiner.specs.Machine.{endRoom, State, state, endingBy, foundBy, over, Front, Closed}
+use Rattle.joiner.specs.Machine.{endRoom, State, state, endingBy, foundBy, over}
+use Rattle.joiner.specs.Parts.{Front, Closed}
 use Rattle.joiner.proofs.Fronts.{lined-front}
 
 -- ---- the line of a stop

@@ -11,7 +11,8 @@ use Rattle.listing.specs.declared.Put.{Put}
 use Rattle.listing.specs.declared.Put.the-variants.{Bytes}
 use Rattle.listing.specs.Puts.{Lined}
 use Rattle.listing.proofs.Counting.{put-text, put-size}
-use Rattle.joiner.specs.Machine.{over, Front}
+use Rattle.joiner.specs.Machine.{over}
+use Rattle.joiner.specs.Parts.{Front}
 
 pub lined-front : {first out mid : List ℕ} {r : Put} → Lined first out r mid → length first ≤ length out → (n : ℕ) → r ≡ Bytes n → Front first out n mid
 lined-front l h n e = record { counts = put-size l h n e; puts = put-text l h }

@@ -3,5 +3,5 @@ pub mod Ends
 pub mod Begins
 pub mod Turns
 pub mod Prints
-pub mod Tells
+pub mod Closes
 pub mod OneResult

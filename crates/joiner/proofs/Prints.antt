@@ -14,12 +14,12 @@ use Rattle.galois.specs.FieldLaws.{FieldLaws}
 use Rattle.linear.specs.Choice.{pick}
 use Rattle.stream.specs.declared.Geometry.{Geometry}
 use Rattle.stream.specs.Geometries.{bodyOf}
-use Rattle.stream.specs.Streams.{Stream, piece, end, stop, streamOf}
+use Rattle.stream.specs.Streams.{largest, Stream, piece, end, stop, streamOf}
 use Rattle.reader.specs.declared.Reader.{Reader}
 use Rattle.reader.specs.declared.Came.{Came}
 use Rattle.reader.specs.declared.Came.the-variants as came·
 use Rattle.reader.specs.declared.Progress.the-variants.{Of}
-use Rattle.reader.specs.Reading.{largest, wanted}
+use Rattle.reader.specs.Reading.{wanted}
 use Rattle.reader.specs.Pump.{saysFrom, front, kept, declines, back, pumpedFrom, Reads}
 use Rattle.reader.specs.Pump as reads·
 use Rattle.reader.proofs.Reading.{Brought, start, whole, cut, brought}
@@ -48,25 +48,25 @@ says-lines 𝓕 (stop a at) j elements = refl
 
 -- ---- what holds from piece to piece: the counts are good, no more pieces have come than bytes, and the matrix has room for the first
 
-record Ready (at : ℕ) (s : State) : Type 0 where
-  few : s .joining .repeats ≤ s .joining .pieces
-  fewer : s .joining .pieces ≤ at
-  room : (g : Geometry) → numberOf (startRefusal (s .joining .held) g (length (s .matrix))) ≡ 0
+pub record Ready (at : ℕ) (s : State) : Type 0 where
+  pub few : s .joining .repeats ≤ s .joining .pieces
+  pub fewer : s .joining .pieces ≤ at
+  pub room : (g : Geometry) → numberOf (startRefusal (s .joining .held) g (length (s .matrix))) ≡ 0
 
 at-most-one : (t : Bool) → pick t 1 0 ≤ 1
 at-most-one true = omega arith
 at-most-one false = omega arith
 
-positive : (n : ℕ) → (n ≡ 0 → ⊥) → (w : ℕ) × (n ≡ suc w)
+pub positive : (n : ℕ) → (n ≡ 0 → ⊥) → (w : ℕ) × (n ≡ suc w)
 positive zero h = absurd (h refl)
 positive (suc n) h = (n, refl)
 
 module _ (𝓕 : FieldLaws) where
-  ready-passes : (at : ℕ) (s : State) (g : Geometry) → Ready at s → at + 1 + bodyOf g ≤ largest → numberOf (joins 𝓕 .refusal s g) ≡ 0
+  pub ready-passes : (at : ℕ) (s : State) (g : Geometry) → Ready at s → at + 1 + bodyOf g ≤ largest → numberOf (joins 𝓕 .refusal s g) ≡ 0
   ready-passes at s g r l =
       ap numberOf (tested (s .joining) g (length (s .matrix)) textRoom (omega arith) (r .few) (omega (arith, r .fewer))) ∙ r .room g
 
-  still-ready : (at : ℕ) (s : State) (g : Geometry) (full : List ℕ) → Ready at s → Ready (at + 1 + bodyOf g) (joins 𝓕 .after s g full)
+  pub still-ready : (at : ℕ) (s : State) (g : Geometry) (full : List ℕ) → Ready at s → Ready (at + 1 + bodyOf g) (joins 𝓕 .after s g full)
   unfolding joinedAfter joined startRefusal
   still-ready at s g full r =
       record {
@@ -75,7 +75,7 @@ module _ (𝓕 : FieldLaws) where
         room = λ g. refl;
       }
 
-  first-ready : Ready 0 (state nothing (replicate matrixLength 0))
+  pub first-ready : Ready 0 (state nothing (replicate matrixLength 0))
   unfolding startRefusal
   first-ready =
       record {

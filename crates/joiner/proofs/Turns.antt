@@ -33,7 +33,8 @@ use Rattle.listing.proofs.Stepping.{chosen, declined}
 use Rattle.joiner.specs.declared.Joiner.{Joiner}
 use Rattle.joiner.specs.declared.Fed.the-variants.{Text, Refused}
 use Rattle.joiner.specs.declared.Closing.{Closing}
-use Rattle.joiner.specs.Machine.{endRoom, textRoom, State, state, joins, endingBy, foundBy, Outcome, outcomeBy, outcome, turnRefusal, feedRefusal, over, Going, Feeding, Closed}
+use Rattle.joiner.specs.Machine.{endRoom, textRoom, State, state, joins, endingBy, foundBy, Outcome, outcomeBy, outcome, turnRefusal, feedRefusal, over, Going, Feeding}
+use Rattle.joiner.specs.Parts.{Closed}
 use Rattle.joiner.proofs.Fronts.{room-behind, behind}
 use Rattle.joiner.proofs.Begins.{Goes, Declines}
 

@@ -10,7 +10,6 @@ use Rattle.answers.specs.declared.Answer.the-variants.{NoRoom}
 use Rattle.galois.specs.FieldLaws.{FieldLaws}
 use Rattle.linear.specs.Choice.{pick}
 use Rattle.block.specs.Refusal.{ifOk}
-use Rattle.reader.specs.declared.Came.{Came}
 use Rattle.reader.specs.declared.Then.{Then}
 use Rattle.reader.specs.declared.Then.the-variants as then·
 use Rattle.reader.specs.declared.Progress.{Progress}
@@ -29,7 +28,6 @@ use Rattle.joiner.specs.declared.Ending.the-variants.{NotYet, Rebuilt, O
 use Rattle.joiner.specs.declared.Joiner.{Joiner}
 use Rattle.joiner.specs.declared.Fed.{Fed}
 use Rattle.joiner.specs.declared.Fed.the-variants.{Text, Refused}
-use Rattle.joiner.specs.declared.Closing.{Closing}
 
 -- the lines of the end, and with a piece's line before them
 abbrev pub endRoom : ℕ
@@ -50,7 +48,7 @@ abbrev pub state : Joining → List ℕ → State
 state j elements = record { joining = j; matrix = elements }
 
 -- "Header `n answer rows taken`; then a line a piece"; "On 24, 25 or 26 it is instead `stop`, the number, and the record's byte offset"
-abbrev pub joins : FieldLaws → Program State
+abbrev pub joins : FieldLaws → Program ℕ State
 joins 𝓕 =
     record {
       header = headerLine;
@@ -119,24 +117,3 @@ pub record Going (refusal : Answer) (o : Outcome) (elements area out : List ℕ)
 
 abbrev pub Feeding : FieldLaws → Joiner → List ℕ → List ℕ → List ℕ → List ℕ → Fed → List ℕ → List ℕ → List ℕ → Type 0
 Feeding 𝓕 m bytes elements area out = Going (feedRefusal 𝓕 m bytes elements (length area) (length out)) (outcome 𝓕 m elements bytes) elements area out
-
--- ---- what the private functions leave
-
--- text put at the front of a buffer, n bytes of it
-pub record Front (text out : List ℕ) (n : ℕ) (last : List ℕ) : Type 0 where
-  pub counts : n ≡ length text
-  pub puts : last ≡ over text out
-
-pub record Begun (𝓕 : FieldLaws) (s : State) (came : Came) (bytes out : List ℕ) (r : Step) (matrix last : List ℕ) : Type 0 where
-  pub result :
-      r
-      ≡ ifOk (declines (joins 𝓕) s came) (step·.Line (kept (joins 𝓕) s came bytes .joining) (length (front (joins 𝓕) s came bytes)))
-      (step·.Refused (declines (joins 𝓕) s came))
-  pub left : matrix ≡ ifOk (declines (joins 𝓕) s came) (kept (joins 𝓕) s came bytes .matrix) (s .matrix)
-  pub printed : last ≡ ifOk (declines (joins 𝓕) s came) (over (front (joins 𝓕) s came bytes) out) out
-
--- the field has no part in it
-pub record Closed (s : State) (then : Then) (at : ℕ) (area out : List ℕ) (r : Closing) (area′ last : List ℕ) : Type 0 where
-  pub ends : r .ending ≡ endingBy s then
-  pub says : (𝓕 : FieldLaws) → Front (back (joins 𝓕) s then at) out (r .size) last
-  pub block : area′ ≡ over (foundBy s then) area

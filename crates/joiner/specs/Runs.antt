@@ -2,15 +2,19 @@
 use mathlib.Core.Path.{_≡_}
 use mathlib.Core.List.{List, [], _++_}
 use Prim.Native.Nat.{ℕ, suc, _+_}
-use lib.ListN.{take, drop}
+use lib.ListN.{take, drop, replicate}
 use Rattle.galois.specs.FieldLaws.{FieldLaws}
+use Rattle.stream.specs.Streams.{Stream, piece, end, stop, streamOf}
 use Rattle.reader.specs.Reading.{wanted}
-use Rattle.listing.specs.Lines.{endLine, stopLine, dataLine}
+use Rattle.reader.specs.declared.Then.the-variants as then·
+use Rattle.listing.specs.declared.join.Joining.{Joining}
+use Rattle.listing.specs.Joining.{nothing, joinedAfter, elementsAfter}
+use Rattle.listing.specs.Listing.{matrixLength}
 use Rattle.joiner.specs.declared.Ending.{Ending}
-use Rattle.joiner.specs.declared.Ending.the-variants.{Rebuilt, Open, Stopped}
+use Rattle.joiner.specs.declared.Ending.the-variants.{Stopped}
 use Rattle.joiner.specs.declared.Joiner.{Joiner}
 use Rattle.joiner.specs.declared.Fed.the-variants.{Text}
-use Rattle.joiner.specs.Machine.{Feeding}
+use Rattle.joiner.specs.Machine.{state, endingBy, foundBy, Feeding}
 
 module _ (𝓕 : FieldLaws) where
   -- in so many turns, from a machine, its matrix and its block on, with these bytes left: the machine is fed what it wants of them (fewer only where
@@ -23,8 +27,16 @@ module _ (𝓕 : FieldLaws) where
         → Run n next matrix area′ (drop (wanted (m .reader .place)) left) text end block
         → Run (suc n) m elements area left (take (first + later) last ++ text) end block
 
--- what an ending says of the text and of the block: the last lines say the same, and the data of the last line stand at the front of the block
-pub data Told (text block : List ℕ) : Ending → Type 0 where
-  rebuilt : (before : List ℕ) {n : ℕ} (repeats : ℕ) → text ≡ before ++ (endLine 0 n repeats ++ dataLine (take n block)) → Told text block (Rebuilt n)
-  left-open : (before : List ℕ) (number repeats : ℕ) → (number ≡ 0 → ⊥) → text ≡ before ++ endLine number 0 repeats → Told text block Open
-  stopped : (before : List ℕ) (number at : ℕ) → text ≡ before ++ stopLine number at → Told text block Stopped
+-- how it ends, and the data at the front of the block
+pub record Close : Type 0 where
+  pub ending : Ending
+  pub found : List ℕ
+
+-- the same for a stream that is known whole: what recovery answers at its end record decides
+unfoldable pub closeFrom : FieldLaws → Joining → List ℕ → Stream → Close
+closeFrom 𝓕 j elements (piece g full later) = closeFrom 𝓕 (joinedAfter 𝓕 j elements g full) (elementsAfter 𝓕 j elements g full) later
+closeFrom 𝓕 j elements end = record { ending = endingBy (state j elements) then·.End; found = foundBy (state j elements) then·.End }
+closeFrom 𝓕 j elements (stop a at) = record { ending = Stopped; found = [] }
+
+unfoldable pub closeOf : FieldLaws → List ℕ → Close
+closeOf 𝓕 input = closeFrom 𝓕 nothing (replicate matrixLength 0) (streamOf input)

@@ -12,6 +12,7 @@ use Rattle.galois.specs.FieldLaws.{FieldLaws}
 use Rattle.linear.specs.Choice.{ifZero}
 use Rattle.block.specs.Refusal.{ifOk}
 use Rattle.stream.specs.declared.Geometry.{Geometry}
+use Rattle.stream.specs.Streams.{largest}
 use Rattle.decoder.specs.declared.Decoder.{Decoder}
 use Rattle.decoder.specs.declared.Made.{Made}
 use Rattle.decoder.specs.declared.Made.the-variants as new
@@ -21,7 +22,7 @@ use Rattle.listing.specs.declared.join.Joining.{Joining}
 use Rattle.listing.specs.declared.join.Step.{Step}
 use Rattle.listing.specs.declared.join.Step.the-variants.{Line, Refused}
 use Rattle.listing.specs.Joining.{decoderFor, matrixFor, joined, lineOf, answerTo, decoderAfter, elementsAfter, joinedAfter, lineFor}
-use Rattle.listing.specs.Steps.{lineRoom, largest, startRefusal, stepRefusal, Took, Stepped}
+use Rattle.listing.specs.Steps.{lineRoom, startRefusal, stepRefusal, Took, Stepped}
 
 pub chosen : {A : Type 0} (a : Answer) (x y : A) → numberOf a ≡ 0 → x ≡ ifOk a x y
 chosen a x y ok = sym (ap (λ (n : ℕ). ifZero n x y) ok)

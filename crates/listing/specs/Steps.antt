@@ -12,6 +12,7 @@ use Rattle.linear.specs.Choice.{pick}
 use Rattle.block.specs.Refusal.{ifOk}
 use Rattle.stream.specs.declared.Geometry.{Geometry}
 use Rattle.stream.specs.Geometries.{piecesOf, lengthOf}
+use Rattle.stream.specs.Streams.{largest}
 use Rattle.decoder.specs.declared.Decoder.{Decoder}
 use Rattle.decoder.specs.Entries.{newRefusal}
 use Rattle.decoder.specs.Calls.{numberNext, recordNext, bufferNext}
@@ -27,12 +28,9 @@ use Rattle.listing.specs.declared.join.End.the-variants as end
 use Rattle.listing.specs.Joining.{joined, lineOf, joinedAfter, elementsAfter, lineFor}
 use Rattle.listing.specs.Listing.{endAnswer, dataOf, endLines}
 
--- the longest line of a piece, and the largest number of a machine
+-- the longest line of a piece
 abbrev pub lineRoom : ℕ
 lineRoom = 84
-
-abbrev pub largest : ℕ
-largest = 18446744073709551615
 
 -- the first piece asks for the matrix of a new decoder
 unfoldable pub startRefusal : Held → Geometry → ℕ → Answer

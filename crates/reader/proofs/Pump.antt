@@ -23,7 +23,7 @@ use Rattle.stream.specs.declared.Record.{Record}
 use Rattle.stream.specs.declared.Record.the-variants as record·
 use Rattle.stream.specs.Geometries.{bodyOf}
 use Rattle.stream.specs.Records.{kindRecord, recordAt}
-use Rattle.stream.specs.Streams.{streamFrom, streamOf}
+use Rattle.stream.specs.Streams.{largest, streamFrom, streamOf}
 use Rattle.stream.proofs.Streams.{from-piece, from-end, from-refused}
 use Rattle.reader.specs.declared.Place.{Place}
 use Rattle.reader.specs.declared.Place.the-variants as place·
@@ -33,13 +33,13 @@ use Rattle.reader.specs.declared.Came.the-variants as came·
 use Rattle.reader.specs.declared.Then.{Then}
 use Rattle.reader.specs.declared.Then.the-variants as then·
 use Rattle.reader.specs.declared.Progress.the-variants.{Of}
-use Rattle.reader.specs.Reading.{longest, largest, started, wanted, openedBy, placeBy, thenBy, on, brings, progress}
+use Rattle.reader.specs.Reading.{longest, started, wanted, openedBy, placeBy, thenBy, on, brings, progress}
 use Rattle.reader.specs.Pump.{Program, saysFrom, front, kept, declines, back, turnBy, pumpedFrom}
 use Rattle.reader.proofs.Reading.{place-decides}
 use Rattle.reader.proofs.ByKind.{cutTo, by-kind}
 use Rattle.reader.proofs.Turns.{bodyAt, brings-cut, brings-whole}
 
-module _ {S : Type 0} (p : Program S) where
+module _ {A S : Type 0} (p : Program A S) where
   -- ---- one turn
 
   pub wants-nothing : (n : ℕ) (r : Reader) (s : S) (left : List ℕ) → wanted (r .place) ≡ 0 → pumpedFrom p n r s left ≡ []
@@ -61,8 +61,8 @@ module _ {S : Type 0} (p : Program S) where
   unfolding pumpedFrom turnBy
   turned n w r s left k next came then e ok =
       let bytes : List ℕ = take (wanted (r .place)) left in
-      let later : Reader → S → List ℕ = λ next t. pumpedFrom p n next t (drop (wanted (r .place)) left) in
-      let text : List ℕ = (front p s came bytes ++ back p (kept p s came bytes) then (next .at)) ++ later next (kept p s came bytes) in
+      let later : Reader → S → List A = λ next t. pumpedFrom p n next t (drop (wanted (r .place)) left) in
+      let text : List A = (front p s came bytes ++ back p (kept p s came bytes) then (next .at)) ++ later next (kept p s came bytes) in
       ap (λ (m : ℕ). ifZero m [] (turnBy p s bytes later (progress r bytes))) k
       ∙ ap (turnBy p s bytes later) e
       ∙ ap (λ (m : ℕ). ifZero m text []) ok
@@ -73,13 +73,13 @@ module _ {S : Type 0} (p : Program S) where
       → back p s then·.End at ++ pumpedFrom p n (record { place = place·.Done; seen = so-far; at = at }) s left ≡ saysFrom p s (streamFrom (suc m) so-far at rest)
   unfolding saysFrom back
   ended n m so-far at s rest left e =
-      ap (λ (l : List ℕ). p .ending s ++ l) (done-pumped n so-far at s left) ∙ append-nil (p .ending s) ∙ ap (saysFrom p s) (sym (from-end m so-far at rest e))
+      ap (λ (l : List A). p .ending s ++ l) (done-pumped n so-far at s left) ∙ append-nil (p .ending s) ∙ ap (saysFrom p s) (sym (from-end m so-far at rest e))
 
   stopped : (n m : ℕ) (so-far : Seen) (at : ℕ) (s : S) (rest left : List ℕ) (a : Answer) → recordAt so-far rest ≡ record·.Refused a
       → back p s (then·.Stop a) at ++ pumpedFrom p n (record { place = place·.Done; seen = so-far; at = at }) s left ≡ saysFrom p s (streamFrom (suc m) so-far at rest)
   unfolding saysFrom back
   stopped n m so-far at s rest left a e =
-      ap (λ (l : List ℕ). p .stopping a at ++ l) (done-pumped n so-far at s left) ∙ append-nil (p .stopping a at)
+      ap (λ (l : List A). p .stopping a at ++ l) (done-pumped n so-far at s left) ∙ append-nil (p .stopping a at)
       ∙ ap (saysFrom p s) (sym (from-refused m so-far at rest a e))
 
   -- ---- from a kind byte on, and from a body on
@@ -133,7 +133,7 @@ module _ {S : Type 0} (p : Program S) where
           (brings-whole g so-far at left b (omega arith)) (passes at s g o (omega arith))
           ∙ (λ i. (p .line s g (q i) ++ back p (p .after s g (q i)) (thenBy r) (at + 1 + bodyOf g)) ++ pumpedFrom p n next (p .after s g (q i)) (d i))
           ∙ append-assoc (p .line s g full) (back p t (thenBy r) (at + 1 + bodyOf g)) (pumpedFrom p n next t (drop 1 rest))
-          ∙ ap (λ (x : List ℕ). p .line s g full ++ x)
+          ∙ ap (λ (x : List A). p .line s g full ++ x)
           (from-kind n m (seen·.Pieces g) (at + 1 + bodyOf g) t rest (omega (arith, length-drop (bodyOf g) left)) (omega (arith, length-drop (bodyOf g) left))
           (omega (arith, length-drop (bodyOf g) left)) (goes-on at s g full o) from r refl)
           ∙ ap (λ (x : List ℕ). p .line s g full ++ saysFrom p t (streamFrom (suc m) (seen·.Pieces g) (at + 1 + bodyOf g) x))
@@ -163,5 +163,5 @@ module _ {S : Type 0} (p : Program S) where
         let next : Reader = record { place = placeBy r; seen = seen·.Nothing; at = 0 } in
         turned n 0 started s input refl next came·.Start (thenBy r) (place-decides started (take 1 input) (simp length-take (omega arith))) refl
         ∙ append-assoc (p .header) (back p s (thenBy r) 0) (pumpedFrom p n next s (drop 1 input))
-        ∙ ap (λ (x : List ℕ). p .header ++ x)
+        ∙ ap (λ (x : List A). p .header ++ x)
         (from-kind n (length input) seen·.Nothing 0 s input h (omega arith) (omega arith) o (from-body n (suc (length input))) r refl)

@@ -18,6 +18,7 @@ use Rattle.stream.specs.declared.Seen.the-variants as seen·
 use Rattle.stream.specs.declared.Record.{Record}
 use Rattle.stream.specs.declared.Record.the-variants as record·
 use Rattle.stream.specs.Geometries.{bodyOf}
+use Rattle.stream.specs.Streams.{largest}
 use Rattle.stream.specs.Records.{kindRecord}
 use Rattle.reader.specs.declared.Place.{Place}
 use Rattle.reader.specs.declared.Place.the-variants as place·
@@ -28,7 +29,7 @@ use Rattle.reader.specs.declared.Then.{Then}
 use Rattle.reader.specs.declared.Then.the-variants as then·
 use Rattle.reader.specs.declared.Progress.{Progress}
 use Rattle.reader.specs.declared.Progress.the-variants.{Of, Refused}
-use Rattle.reader.specs.Reading.{longest, largest, wanted, openedBy, placeBy, thenBy, on, bodyBrings, brings, progress, bodyIn}
+use Rattle.reader.specs.Reading.{longest, wanted, openedBy, placeBy, thenBy, on, bodyBrings, brings, progress, bodyIn}
 
 pub body-short : (g : Geometry) → bodyOf g ≤ longest
 body-short Of3By2 = omega arith

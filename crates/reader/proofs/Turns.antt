@@ -18,6 +18,7 @@ use Rattle.stream.specs.declared.Seen.the-variants as seen·
 use Rattle.stream.specs.declared.Record.{Record}
 use Rattle.stream.specs.declared.Record.the-variants as record·
 use Rattle.stream.specs.Geometries.{bodyOf}
+use Rattle.stream.specs.Streams.{largest}
 use Rattle.reader.specs.declared.Place.{Place}
 use Rattle.reader.specs.declared.Place.the-variants as place·
 use Rattle.reader.specs.declared.Reader.{Reader}
@@ -25,7 +26,7 @@ use Rattle.reader.specs.declared.Came.{Came}
 use Rattle.reader.specs.declared.Came.the-variants as came·
 use Rattle.reader.specs.declared.Then.{Then}
 use Rattle.reader.specs.declared.Then.the-variants as then·
-use Rattle.reader.specs.Reading.{largest, started, wanted, openedBy, placeBy, on, brings, progress}
+use Rattle.reader.specs.Reading.{started, wanted, openedBy, placeBy, on, brings, progress}
 use Rattle.reader.specs.declared.Progress.the-variants.{Of}
 use Rattle.reader.specs.Pump.{Reads, done, turn}
 use Rattle.reader.proofs.Reading.{body-cut, body-whole, place-decides}

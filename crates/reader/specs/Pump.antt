@@ -3,7 +3,7 @@
 use mathlib.Core.Path.{_≡_}
 use mathlib.Core.List.{List, [], _++_}
 use Prim.Native.Nat.{ℕ, zero, suc}
-use lib.ListN.{length, take, drop}
+use lib.ListN.{take, drop}
 use Rattle.answers.specs.declared.Answer.{Answer}
 use Rattle.answers.specs.declared.Answer.the-variants.{Ok}
 use Rattle.linear.specs.Choice.{ifZero}
@@ -18,26 +18,26 @@ use Rattle.reader.specs.declared.Then.{Then}
 use Rattle.reader.specs.declared.Then.the-variants as then·
 use Rattle.reader.specs.declared.Progress.{Progress}
 use Rattle.reader.specs.declared.Progress.the-variants.{Of, Refused}
-use Rattle.reader.specs.Reading.{started, wanted, progress}
+use Rattle.reader.specs.Reading.{wanted, progress}
 
--- what a program says before the stream, of a piece, at the end and at a stop; what it keeps from piece to piece; and why it would not take a piece
-pub record Program (S : Type 0) : Type 0 where
-  pub header : List ℕ
-  pub line : S → Geometry → List ℕ → List ℕ
+-- what a program says, in bytes or otherwise, before the stream, of a piece, at the end and at a stop; what it keeps from piece to piece; and why it would not take a piece
+pub record Program (A S : Type 0) : Type 0 where
+  pub header : List A
+  pub line : S → Geometry → List ℕ → List A
   pub after : S → Geometry → List ℕ → S
   pub refusal : S → Geometry → Answer
-  pub ending : S → List ℕ
-  pub stopping : Answer → ℕ → List ℕ
+  pub ending : S → List A
+  pub stopping : Answer → ℕ → List A
 
-module _ {S : Type 0} (p : Program S) where
+module _ {A S : Type 0} (p : Program A S) where
   -- what it says of a stream that is known whole
-  unfoldable pub saysFrom : S → Stream → List ℕ
+  unfoldable pub saysFrom : S → Stream → List A
   saysFrom s (piece g full later) = p .line s g full ++ saysFrom (p .after s g full) later
   saysFrom s end = p .ending s
   saysFrom s (stop a at) = p .stopping a at
 
   -- a turn: what is said of what came, what is kept of it and why it is refused, and what is said of the record behind it
-  unfoldable pub front : S → Came → List ℕ → List ℕ
+  unfoldable pub front : S → Came → List ℕ → List A
   front s came·.Start bytes = p .header
   front s (came·.Piece g) bytes = p .line s g (take (bodyOf g) bytes)
   front s came·.Cut bytes = []
@@ -52,27 +52,23 @@ module _ {S : Type 0} (p : Program S) where
   declines s (came·.Piece g) = p .refusal s g
   declines s came·.Cut = Ok
 
-  unfoldable pub back : S → Then → ℕ → List ℕ
+  unfoldable pub back : S → Then → ℕ → List A
   back s then·.Body at = []
   back s then·.End at = p .ending s
   back s (then·.Stop a) at = p .stopping a at
 
   -- what is said in a turn, and then; a refusal ends it
-  unfoldable pub turnBy : S → List ℕ → (Reader → S → List ℕ) → Progress → List ℕ
+  unfoldable pub turnBy : S → List ℕ → (Reader → S → List A) → Progress → List A
   turnBy s bytes later (Of next came then) =
       ifOk (declines s came) ((front s came bytes ++ back (kept s came bytes) then (next .at)) ++ later next (kept s came bytes)) []
   turnBy s bytes later (Refused a) = []
 
   -- at most so many turns, with so many bytes left: what is wanted is read, until nothing is
-  unfoldable pub pumpedFrom : ℕ → Reader → S → List ℕ → List ℕ
+  unfoldable pub pumpedFrom : ℕ → Reader → S → List ℕ → List A
   pumpedFrom zero r s left = []
   pumpedFrom (suc turns) r s left =
       ifZero (wanted (r .place)) []
       (turnBy s (take (wanted (r .place)) left) (λ next t. pumpedFrom turns next t (drop (wanted (r .place)) left)) (progress r (take (wanted (r .place)) left)))
-
-  -- the whole input. It takes no more turns than it has bytes, and one
-  unfoldable pub pumped : S → List ℕ → List ℕ
-  pumped s input = pumpedFrom (suc (length input)) started s input
 
 -- an input read in so many turns: what is wanted of the bytes left is read, until nothing is wanted. No turn is refused
 pub data Reads : ℕ → Reader → List ℕ → Type 0 where

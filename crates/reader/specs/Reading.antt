@@ -13,6 +13,7 @@ use Rattle.stream.specs.declared.Record.{Record}
 use Rattle.stream.specs.declared.Record.the-variants as record·
 use Rattle.stream.specs.Geometries.{bodyOf}
 use Rattle.stream.specs.Records.{kindRecord}
+use Rattle.stream.specs.Streams.{largest}
 use Rattle.reader.specs.declared.Place.{Place}
 use Rattle.reader.specs.declared.Place.the-variants as place·
 use Rattle.reader.specs.declared.Reader.{Reader}
@@ -23,12 +24,9 @@ use Rattle.reader.specs.declared.Then.the-variants as then·
 use Rattle.reader.specs.declared.Progress.{Progress}
 use Rattle.reader.specs.declared.Progress.the-variants.{Of, Refused}
 
--- the longest body, and the largest number of a machine
+-- the longest body
 abbrev pub longest : ℕ
 longest = 512
-
-abbrev pub largest : ℕ
-largest = 18446744073709551615
 
 abbrev pub started : Reader
 started = record { place = place·.Start; seen = seen·.Nothing; at = 0 }
@@ -55,9 +53,12 @@ thenBy (record·.Piece g) = then·.Body
 thenBy record·.End = then·.End
 thenBy (record·.Refused a) = then·.Stop a
 
+abbrev pub wantingAt : Seen → ℕ → Place → Reader
+wantingAt so-far at place = record { place = place; seen = so-far; at = at }
+
 -- a record opened at an offset, and what came before it
 abbrev pub on : Seen → ℕ → Came → Record → Progress
-on so-far at came r = Of (record { place = placeBy r; seen = so-far; at = at }) came (thenBy r)
+on so-far at came r = Of (wantingAt so-far at (placeBy r)) came (thenBy r)
 
 -- a body: "a record cut short .. 25"; else the record behind it, at an offset that has to be a number of the machine
 unfoldable pub bodyBrings : Geometry → Reader → List ℕ → Progress

@@ -2,7 +2,7 @@
 // is wanted first, then each body with the kind byte behind it, so that nothing behind the end record is asked for. What is done with a piece is a
 // program's own.
 ghost use mathlib.Core.Path.{_≡_};
-ghost use Rattle.reader.specs.Reading.{started, wanted, openedBy, on, bodyBrings, progress};
+ghost use Rattle.reader.specs.Reading.{started, wanted, openedBy, wantingAt, on, bodyBrings, progress};
 use answers::Answer;
 use stream::Geometry;
 use stream::Record;
@@ -113,36 +113,21 @@ impl Reader {
     fn next(self, came: Came, record: Record) -> Progress
         ensures { λ r. ⌜ r ≡ on (self .seen) (self .at) came «record» ⌝ }
     {
-        let seen = self.seen;
-        let at = self.at;
         match record {
-            Record::Piece(g) => Progress::Of(
-                Reader {
-                    place: Place::Body(g),
-                    seen,
-                    at,
-                },
-                came,
-                Then::Body,
-            ),
-            Record::End => Progress::Of(
-                Reader {
-                    place: Place::Done,
-                    seen,
-                    at,
-                },
-                came,
-                Then::End,
-            ),
-            Record::Refused(a) => Progress::Of(
-                Reader {
-                    place: Place::Done,
-                    seen,
-                    at,
-                },
-                came,
-                Then::Stop(a),
-            ),
+            Record::Piece(g) => Progress::Of(self.wanting(Place::Body(g)), came, Then::Body),
+            Record::End => Progress::Of(self.wanting(Place::Done), came, Then::End),
+            Record::Refused(a) => Progress::Of(self.wanting(Place::Done), came, Then::Stop(a)),
+        }
+    }
+
+    fn wanting(self, place: Place) -> Reader
+        ensures { λ r. ⌜ r ≡ wantingAt (self .seen) (self .at) place ⌝ }
+    {
+        let seen = self.seen;
+        Reader {
+            place,
+            seen,
+            at: self.at,
         }
     }
 }

@@ -11,6 +11,10 @@ use Rattle.stream.specs.declared.Record.the-variants.{Piece, End, Refuse
 use Rattle.stream.specs.Geometries.{kindOf, bodyOf}
 use Rattle.stream.specs.Records.{recordAt}
 
+-- the largest number of a machine, for a count of pieces and for an offset
+abbrev pub largest : ℕ
+largest = 18446744073709551615
+
 -- the pieces in their order, all of one geometry; then the end record, or a refusal with "the record's byte offset (the input's length if the
 -- end record is missing)". "Nothing behind the end record is read."
 pub data Stream : Type 0 where

@@ -7,9 +7,10 @@ use native.Mathlib.Omega.{arith}
 use lib.ListN.{drop}
 use Rattle.stream.specs.declared.Seen.the-variants.{Pieces}
 use Rattle.stream.specs.Geometries.{bodyOf}
+use Rattle.stream.specs.Streams.{largest}
 use borrow.Rule.Slice.PartAt.{part-to-end}
 use Rattle.reader.specs.declared.Came.the-variants.{Piece}
-use Rattle.reader.specs.Reading.{largest, openedBy, on}
+use Rattle.reader.specs.Reading.{openedBy, on}
 use Rattle.reader.proofs.Reading.{body-cut, body-far, body-whole}
 use Rattle.reader.proofs.Reader.body.Statement.{statement}
 use Rattle.reader.proofs.Reader.body.Tie as tie
