@@ -21,6 +21,10 @@
  *  4. Memory that an entry may write (slices that are not const, and numbers behind pointers) shares no byte with any other argument. Slices
  *     that are only read may overlap each other.
  *  5. While an entry runs, no other thread writes what the entry was handed, nor reads what the entry may write.
+ *
+ * WHAT A REBUILT BLOCK IS WORTH. 0 from rlnc_decoder_get_decoded_data says that the pieces taken determine one block, if they are truthful. It
+ * does not say that they are: a piece with a damaged byte can give other data with the same answer 0. Check rebuilt data by a checksum of their
+ * own.
  */
 #ifndef RLNC_H
 #define RLNC_H
@@ -173,12 +177,12 @@ uint8_t rlnc_decoder_new(size_t piece_byte_len, size_t required_piece_count, uin
 uint8_t rlnc_decoder_decode(size_t piece_byte_len, size_t required_piece_count, uint8_t *elements, size_t elements_len,
                             const uint8_t *full_coded_piece, size_t full_coded_piece_len, size_t *useful_piece_count, size_t *received_piece_count);
 
-/* Recovers the data into the front of data and stores its length. 22: as above. 10: not complete. 21: data_room < k·L. 11: the block breaks
- * the padding rule. */
+/* Recovers the data into the front of data and stores its length. 0 does not say that the pieces were truthful (see above). 22: as above. 10:
+ * not complete. 21: data_room < k·L. 11: the block breaks the padding rule. */
 uint8_t rlnc_decoder_get_decoded_data(size_t piece_byte_len, size_t required_piece_count, size_t useful_piece_count, size_t received_piece_count,
                                       const uint8_t *elements, size_t elements_len, uint8_t *data, size_t data_room, size_t *data_len);
 
-/* Whether k rows are held. 22: bad numbers. */
+/* Whether k rows are held: for a new decoder and truthful pieces, whether no other block agrees with all pieces taken. 22: bad numbers. */
 uint8_t rlnc_decoder_is_already_decoded(size_t piece_byte_len, size_t required_piece_count, size_t useful_piece_count, size_t received_piece_count,
                                         bool *complete);
 

@@ -148,7 +148,8 @@ impl Decoder {
         complete
     }
 
-    /// The data. Refuses with 10, 11. The decoder stays as it is.
+    /// The data of the one block that the pieces determine, if they are truthful. It does not say that they are: a damaged piece can give other
+    /// data without a refusal, so check them by a checksum of their own. Refuses with 10, 11. The decoder stays as it is.
     pub fn get_decoded_data(&self) -> Result<Vec<u8>, RLNCError> {
         let mut data = vec![0; self.required_piece_count * self.piece_byte_len];
         let mut data_len = 0;

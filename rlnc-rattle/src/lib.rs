@@ -12,6 +12,9 @@
 //! assert_eq!(decoder.get_decoded_data()?, b"abcd");
 //! # Ok::<(), rlnc_rattle::RLNCError>(())
 //! ```
+//!
+//! Data that come back are those of the one block that the pieces determine, if the pieces are truthful. Nothing here tells whether they are:
+//! check rebuilt data by a checksum of their own.
 mod decoder;
 mod encoder;
 mod entries;

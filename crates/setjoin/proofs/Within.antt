@@ -17,7 +17,7 @@ use Rattle.reader.proofs.Reading.{body-short}
 use Rattle.joiner.specs.declared.Joiner.{Joiner}
 use Rattle.joiner.specs.declared.Fed.{Fed}
 use Rattle.joiner.specs.declared.Fed.the-variants.{Text, Refused}
-use Rattle.joiner.specs.Machine.{Outcome, over, Going}
+use Rattle.joiner.specs.Machine.{textRoom, Outcome, over, Going}
 use Rattle.setjoin.specs.declared.Room.{Room}
 use Rattle.setjoin.specs.declared.Room.the-variants.{From}
 use Rattle.setjoin.specs.Used.{usedBy, putBy}
@@ -26,8 +26,12 @@ use Rattle.setjoin.specs.Used.{usedBy, putBy}
 pub sum-in : (from n : ℕ) (buf : List ℕ) → from ≤ length buf → n ≤ length (take (length buf - from) (drop from buf)) → from + n ≤ length buf
 sum-in from n buf h k = omega (arith, length-take (length buf - from) (drop from buf), length-drop from buf)
 
-pub from-in : {r : Room} {n most : ℕ} → usedBy r ≤ most → r ≡ From n → n ≤ most
-from-in h e = omega (arith, ap usedBy e)
+-- where a turn's text starts, with room for it
+pub starts-in : {r : Room} {n most : ℕ} → usedBy r + textRoom ≤ most → r ≡ From n → n ≤ most
+starts-in h e = omega (arith, ap usedBy e)
+
+pub room-in : {r : Room} {n : ℕ} (buf : List ℕ) → usedBy r + textRoom ≤ length buf → r ≡ From n → textRoom ≤ length (take (length buf - n) (drop n buf))
+room-in {n = n} buf h e = omega (arith, ap usedBy e, length-take (length buf - n) (drop n buf), length-drop n buf)
 
 pub read-in : (n : ℕ) (part rest : List ℕ) → n ≤ length part → n ≤ length (part ++ rest)
 read-in n part rest h = omega (arith, length-append part rest)

@@ -1,7 +1,9 @@
 // Joins the piece stream on standard input: prints its listing, or the data alone. What is read next and what is printed is decided by the machine of
 // `joiner`; here bytes are read, fed and written.
-ghost use Prim.Native.Nat.{_≤_};
+ghost use Prim.Native.Nat.{_+_, _≤_};
 ghost use lib.ListN.{length};
+ghost use Rattle.listing.specs.Listing.{blockRoom};
+ghost use Rattle.joiner.specs.Machine.{textRoom};
 ghost use Rattle.setjoin.specs.Used.{usedBy, putBy};
 use call::Call;
 use field::Field;
@@ -59,10 +61,11 @@ fn write(text: &[u8]) -> bool {
     false
 }
 
-// Writes the text out where a turn's might have no room behind it, or at once.
+// Writes the text out where the longest of a turn has no room behind it, or at once.
 fn make_room(mode: Mode, out: &[u8], used: usize) -> Room
     requires { ⌜ used ≤ length (now out) ⌝ }
-    ensures { λ r. ⌜ usedBy r ≤ length (now (out .entry)) ⌝ }
+    requires { ⌜ textRoom ≤ length (now out) ⌝ }
+    ensures { λ r. ⌜ usedBy r + textRoom ≤ length (now (out .entry)) ⌝ }
 {
     match mode {
         Mode::Data => Room::From(0),
@@ -88,6 +91,8 @@ fn emptied(text: &[u8]) -> Room
 // Reads what the machine wants, and feeds it.
 fn turn(m: Joiner, input: &mut [u8], elements: &mut [u8], data: &mut [u8], out: &mut [u8]) -> Fed
     requires { ⌜ 513 ≤ length (now input) ⌝ }
+    requires { ⌜ blockRoom ≤ length (now «data») ⌝ }
+    requires { ⌜ textRoom ≤ length (now out) ⌝ }
     ensures { λ r. ⌜ putBy r ≤ length (now (out .exit)) ⌝ }
 {
     let want = m.wants();
@@ -99,6 +104,8 @@ fn turn(m: Joiner, input: &mut [u8], elements: &mut [u8], data: &mut [u8], out: 
 // from a number that no input uses up.
 fn run(mode: Mode, input: &mut [u8], elements: &mut [u8], data: &mut [u8], out: &mut [u8]) -> u8
     requires { ⌜ 513 ≤ length (now input) ⌝ }
+    requires { ⌜ blockRoom ≤ length (now «data») ⌝ }
+    requires { ⌜ textRoom ≤ length (now out) ⌝ }
 {
     let mut m = Joiner::new();
     let mut used = 0;
@@ -108,7 +115,7 @@ fn run(mode: Mode, input: &mut [u8], elements: &mut [u8], data: &mut [u8], out: 
             return 2;
         };
         let Fed::Text(next, n, size) = turn(m, input, elements, data, &mut out[from..]) else {
-            return 2;
+            return refused();
         };
         m = next;
         let last = from + n;
@@ -119,6 +126,12 @@ fn run(mode: Mode, input: &mut [u8], elements: &mut [u8], data: &mut [u8], out: 
         }
         turns -= 1;
     }
+    refused()
+}
+
+// The machine has room for every turn: it refuses an input only past 2^64 bytes.
+fn refused() -> u8 {
+    io::write_all(STDERR_FILENO, b"setjoin: the input is too long\n");
     2
 }
 

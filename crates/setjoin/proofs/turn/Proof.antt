@@ -11,12 +11,12 @@ use Rattle.setjoin.proofs.turn.Statement.{statement}
 use Rattle.setjoin.proofs.turn.Tie as tie
 
 slice-relend-prefix-read : tie.Need-slice-relend-prefix-read
-slice-relend-prefix-read c = omega (arith, c .wants .ensures, want-short (c .before .before .before .before .before .args .m .reader .place), c .before .before .before .before .before .pre)
+slice-relend-prefix-read c = omega (arith, c .wants .ensures, want-short (c .before .before .before .before .before .args .m .reader .place), c .before .before .before .before .before .pre .0)
 
 slice-aggregate-read : tie.Need-slice-aggregate-read
 slice-aggregate-read c =
     let a = c .before .before .before .before .before .before .args in
-    sym (length-take-le (c .before .wants .result) (a .input .now) (omega (arith, c .before .wants .ensures, want-short (a .m .reader .place), c .before .before .before .before .before .before .pre)))
+    sym (length-take-le (c .before .wants .result) (a .input .now) (omega (arith, c .before .wants .ensures, want-short (a .m .reader .place), c .before .before .before .before .before .before .pre .0)))
 
 slice-reshare-prefix-feed : tie.Need-slice-reshare-prefix-feed
 slice-reshare-prefix-feed c =

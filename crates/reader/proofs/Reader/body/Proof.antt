@@ -16,11 +16,11 @@ use Rattle.reader.proofs.Reader.body.Statement.{statement}
 use Rattle.reader.proofs.Reader.body.Tie as tie
 
 -- the offset behind a body, in the numbers of the code and in those of the definition
-far : {n body : ℕ} (at : ℕ) → n ≡ body → largest - at < n + 1 → largest < at + 1 + body
-far at e h = omega arith
+far : {end : ℕ} (at body : ℕ) → largest - at < end → end ≡ body + 1 → largest < at + 1 + body
+far at body h e = omega arith
 
-near : {n body : ℕ} (at : ℕ) → n ≡ body → n + 1 ≤ largest - at → at + 1 + body ≤ largest
-near at e h = omega arith
+near : {end : ℕ} (at body : ℕ) → end ≤ largest - at → end ≡ body + 1 → at + 1 + body ≤ largest
+near at body h e = omega arith
 
 returns : tie.Need-returns
 returns c =
@@ -31,7 +31,7 @@ returns-2 : tie.Need-returns-2
 returns-2 c =
     let a = c .before .before .before .before .args in
     let e = c .before .before .body-len .ensures in
-    sym (body-far (a .g) (a .self) (a .input .now) (omega (arith, e, c .before .if1 .left)) (far (a .self .at) e (c .if2 .taken)))
+    sym (body-far (a .g) (a .self) (a .input .now) (omega (arith, e, c .before .if1 .left)) (far (a .self .at) (bodyOf (a .g)) (c .if2 .taken) (omega (arith, e))))
 
 returns-3 : tie.Need-returns-3
 returns-3 c =
@@ -39,9 +39,9 @@ returns-3 c =
     let e = c .before .before .before .before .before .body-len .ensures in
     let part = part-to-end (a .input .now) (c .before .before .before .before .before .body-len .result) ∙ ap (λ (n : ℕ). drop n (a .input .now)) e in
     c .next2 .ensures
-    ∙ (λ i. on (Pieces (a .g)) (a .self .at + (e i + 1)) (Piece (a .g)) ((c .before .opened .ensures ∙ ap (openedBy (Pieces (a .g))) part) i))
-    ∙ ap (λ (n : ℕ). on (Pieces (a .g)) n (Piece (a .g)) (openedBy (Pieces (a .g)) (drop (bodyOf (a .g)) (a .input .now)))) (omega arith)
-    ∙ sym (body-whole (a .g) (a .self) (a .input .now) (omega (arith, e, c .before .before .before .before .if1 .left)) (near (a .self .at) e (c .before .before .before .if2 .left)))
+    ∙ ap (on (Pieces (a .g)) _ (Piece (a .g))) (c .before .opened .ensures ∙ ap (openedBy (Pieces (a .g))) part)
+    ∙ ap (λ (n : ℕ). on (Pieces (a .g)) n (Piece (a .g)) (openedBy (Pieces (a .g)) (drop (bodyOf (a .g)) (a .input .now)))) (omega (arith, e))
+    ∙ sym (body-whole (a .g) (a .self) (a .input .now) (omega (arith, e, c .before .before .before .before .if1 .left)) (near (a .self .at) (bodyOf (a .g)) (c .before .before .before .if2 .left) (omega (arith, e))))
 
 pub body-spec : {M : Type 1} → statement M
 body-spec =
