@@ -1,4 +1,5 @@
--- The listing of a stream of truthful pieces ends with the data where they leave no other block, and with 10 where they leave one.
+-- The listing of a stream of truthful pieces ends with the data where they leave no other block, and with 10 where they leave one; and the data are
+-- handed over where they are listed.
 -- Assumes nothing.
 use mathlib.Core.Path.{_≡_, refl, sym, ap, _∙_, subst}
 use mathlib.Core.Logic.{_⊎_, inl, inr}
@@ -23,7 +24,7 @@ use Rattle.block.proofs.Reading.{filled-carries}
 use Rattle.block.proofs.RowBytes.{block-of}
 use Rattle.stream.specs.declared.Geometry.{Geometry}
 use Rattle.stream.specs.Geometries.{piecesOf, lengthOf, bodyOf}
-use Rattle.stream.specs.Streams.{ofPieces}
+use Rattle.stream.specs.Streams.{end, ofPieces, streamOf}
 use Rattle.stream.proofs.Streams.{round-trip}
 use Rattle.decoder.specs.declared.Decoder.{Decoder}
 use Rattle.decoder.specs.Records.{rowsIn, takenBy, takenLimit, heldRows}
@@ -35,17 +36,19 @@ use Rattle.listing.specs.Lines.{headerLine, pieceLine}
 use Rattle.listing.specs.Joining.{nothing, decoderFor, matrixFor, joined, lineOf, answerTo, decoderAfter, elementsAfter, joinedAfter, lineFor}
 use Rattle.listing.specs.Listing.{endAnswer, dataOf, endLines, matrixLength, blockRoom, linesFrom, listingOf}
 use Rattle.listing.proofs.Room.{matrix-fits, block-fits, new-fits}
+use Rattle.joiner.specs.Machine.{endingBy, foundBy}
+use Rattle.joiner.specs.Runs.{Close, closeFrom, closeOf}
 use Rattle.demands.specs.Calls.{lines, bufferAfter, linesFromNew, bufferFromNew}
 use Rattle.demands.specs.Resumed.{goingOn}
 use Rattle.demands.specs.Purpose.{blockOf, heard, Sends, sent, numbered, eights, pieceLines, repeatsIn, Another, Purpose}
-use Rattle.demands.proofs.Resumed.{lines-alike}
+use Rattle.demands.proofs.Resumed.{told, behindLines, told-alike}
 use Rattle.demands.proofs.Fed.{Fed, recovery, nothing-yet, recordAfter, fed-from-new, unique-back, another-back}
 
 -- ---- the listing in the numbers of `decode`
 
 -- the end, after so many repeats
-abbrev endOf : Decoder → List ℕ → ℕ → List ℕ
-endOf d elements repeats = endLines (goingOn d 0 repeats) elements blockRoom
+abbrev endOf : FieldLaws → Decoder → List ℕ → ℕ → List ℕ × Close
+endOf 𝓕 d elements repeats = told 𝓕 (goingOn d 0 repeats) elements end
 
 -- a new decoder of the geometry, and its matrix
 abbrev newOf : Geometry → Decoder
@@ -56,22 +59,23 @@ clearOf g = replicate (piecesOf g * bodyOf g) 0
 
 module _ (𝓕 : FieldLaws) (g : Geometry) where
   -- the lines of some pieces, and the end
-  lines-are : (ps : List (List ℕ)) (d : Decoder) (elements : List ℕ) (n m : ℕ)
-      → linesFrom 𝓕 (goingOn d n m) elements (ofPieces g ps)
-      ≡ numbered (n + 1) (lines 𝓕 d elements ps)
-      ++ endOf (recordAfter 𝓕 d elements ps) (bufferAfter 𝓕 d elements ps) (m + eights (lines 𝓕 d elements ps))
-  unfolding linesFrom ofPieces numbered eights lines recordAfter bufferAfter endLines lineFor joinedAfter elementsAfter decoderAfter answerTo decoderFor matrixFor joined lineOf
-  lines-are [] d elements n m = ap (endOf d elements) (sym (add-zero m))
-  lines-are (p ∷ ps) d elements n m =
+  told-is : (ps : List (List ℕ)) (d : Decoder) (elements : List ℕ) (n m : ℕ)
+      → told 𝓕 (goingOn d n m) elements (ofPieces g ps)
+      ≡ behindLines (numbered (n + 1) (lines 𝓕 d elements ps))
+      (endOf 𝓕 (recordAfter 𝓕 d elements ps) (bufferAfter 𝓕 d elements ps) (m + eights (lines 𝓕 d elements ps)))
+  unfolding linesFrom closeFrom ofPieces numbered eights lines recordAfter bufferAfter endLines endingBy foundBy lineFor joinedAfter elementsAfter decoderAfter answerTo decoderFor matrixFor joined lineOf
+  told-is [] d elements n m = ap (endOf 𝓕 d elements) (sym (add-zero m))
+  told-is (p ∷ ps) d elements n m =
       let D : Decoder = recordNext 𝓕 d elements p in
       let E : List ℕ = bufferNext 𝓕 d elements p in
       let answer : ℕ = numberNext 𝓕 d elements p in
       let repeat : ℕ = pick (eqb answer 8) 1 0 in
       let line : List ℕ = pieceLine (n + 1) answer (rowsIn D) (takenBy D) in
       let later : List ℕ = numbered (n + 1 + 1) (lines 𝓕 D E ps) in
-      ap (λ (l : List ℕ). line ++ l) (lines-are ps D E (n + 1) (m + repeat))
-      ∙ ap (λ (r : ℕ). line ++ (later ++ endOf (recordAfter 𝓕 D E ps) (bufferAfter 𝓕 D E ps) r)) (add-assoc m repeat (eights (lines 𝓕 D E ps)))
-      ∙ sym (append-assoc line later (endOf (recordAfter 𝓕 D E ps) (bufferAfter 𝓕 D E ps) (m + (repeat + eights (lines 𝓕 D E ps)))))
+      let last : ℕ → List ℕ × Close = endOf 𝓕 (recordAfter 𝓕 D E ps) (bufferAfter 𝓕 D E ps) in
+      ap (behindLines line) (told-is ps D E (n + 1) (m + repeat))
+      ∙ ap (λ (r : ℕ). behindLines line (behindLines later (last r))) (add-assoc m repeat (eights (lines 𝓕 D E ps)))
+      ∙ ap (λ (l : List ℕ). (l, last 0 .1)) (sym (append-assoc line later (last (m + (repeat + eights (lines 𝓕 D E ps))) .0)))
 
   -- the first piece makes the decoder; of its matrix the bytes behind k·F are never read
   alike : Alike (newOf g) (matrixFor g held.Nothing (replicate matrixLength 0)) (clearOf g)
@@ -83,10 +87,10 @@ module _ (𝓕 : FieldLaws) (g : Geometry) where
   }
 
   begins : (ps : List (List ℕ)) → endAnswer (held.Of (newOf g)) (clearOf g) blockRoom ≡ NotAllPiecesReceivedYet
-      → linesFrom 𝓕 nothing (replicate matrixLength 0) (ofPieces g ps) ≡ linesFrom 𝓕 (goingOn (newOf g) 0 0) (clearOf g) (ofPieces g ps)
-  unfolding linesFrom ofPieces endLines endAnswer lineFor joinedAfter elementsAfter decoderAfter answerTo decoderFor matrixFor joined lineOf
+      → told 𝓕 nothing (replicate matrixLength 0) (ofPieces g ps) ≡ told 𝓕 (goingOn (newOf g) 0 0) (clearOf g) (ofPieces g ps)
+  unfolding linesFrom closeFrom ofPieces endLines endingBy foundBy endAnswer lineFor joinedAfter elementsAfter decoderAfter answerTo decoderFor matrixFor joined lineOf
   begins [] e = rw e
-  begins (p ∷ ps) e = lines-alike 𝓕 (ofPieces g (p ∷ ps)) (newOf g) (matrixFor g held.Nothing (replicate matrixLength 0)) (clearOf g) alike 0 0
+  begins (p ∷ ps) e = told-alike 𝓕 (ofPieces g (p ∷ ps)) (newOf g) (matrixFor g held.Nothing (replicate matrixLength 0)) (clearOf g) alike 0 0
 
 -- ---- the block of the data
 
@@ -118,21 +122,23 @@ module _ (𝓕 : FieldLaws) (g : Geometry) (bytes : List ℕ) (pieces : List (Li
   abbrev repeats : ℕ
   repeats = repeatsIn 𝓕 g pieces
 
-  listed : (behind text : List ℕ) → endOf D E repeats ≡ text → listingOf 𝓕 (sent g pieces behind) ≡ headerLine ++ (pieceLines 𝓕 g pieces ++ text)
-  unfolding listingOf pieceLines repeatsIn linesFromNew bufferFromNew endAnswer
-  listed behind text e =
-      ap (λ l. headerLine ++ linesFrom 𝓕 nothing (replicate matrixLength 0) l) (round-trip g behind pieces (x .sizes))
-      ∙ ap (λ (l : List ℕ). headerLine ++ l)
-      (begins 𝓕 g pieces (nothing-yet 𝓕 (piecesOf g) (lengthOf g) [] (new-fits g (piecesOf g * bodyOf g) (omega arith)) blockRoom)
-      ∙ lines-are 𝓕 g pieces (newOf g) (clearOf g) 0 0
-      ∙ ap (λ (l : List ℕ). pieceLines 𝓕 g pieces ++ l) (ap (endOf D E) (zero-add repeats) ∙ e))
+  listed : (behind text : List ℕ) (close : Close) → endOf 𝓕 D E repeats ≡ (text, close)
+      → (listingOf 𝓕 (sent g pieces behind) ≡ headerLine ++ (pieceLines 𝓕 g pieces ++ text)) × (closeOf 𝓕 (sent g pieces behind) ≡ close)
+  unfolding listingOf closeOf pieceLines repeatsIn linesFromNew bufferFromNew endAnswer
+  listed behind text close e =
+      let all : told 𝓕 nothing (replicate matrixLength 0) (streamOf (sent g pieces behind)) ≡ (pieceLines 𝓕 g pieces ++ text, close) =
+      ap (told 𝓕 nothing (replicate matrixLength 0)) (round-trip g behind pieces (x .sizes))
+      ∙ begins 𝓕 g pieces (nothing-yet 𝓕 (piecesOf g) (lengthOf g) [] (new-fits g (piecesOf g * bodyOf g) (omega arith)) blockRoom)
+      ∙ told-is 𝓕 g pieces (newOf g) (clearOf g) 0 0
+      ∙ ap (behindLines (pieceLines 𝓕 g pieces)) (ap (endOf 𝓕 D E) (zero-add repeats) ∙ e) in
+      (ap (λ (t : List ℕ × Close). headerLine ++ t .0) all, ap (λ (t : List ℕ × Close). t .1) all)
 
   fed : Fed 𝓕 (piecesOf g) (lengthOf g) (blockOf g bytes) (reverse (heard pieces)) D E
   fed = fed-from-new 𝓕 (piecesOf g) (lengthOf g) (blockOf g bytes) (new-fits g (piecesOf g * bodyOf g) (omega arith)) pieces (x .sizes) (x .piece-bytes) (x .truthful)
 
   -- the pieces that count are those heard
   pub purpose : Purpose 𝓕 g bytes pieces (heard pieces)
-  unfolding Unique endLines endAnswer dataOf
+  unfolding Unique linesFrom closeFrom endLines endingBy foundBy endAnswer dataOf
   purpose = go (recovery fed is-block carries blockRoom (block-fits g))
     where
       go : ((recoverRefusal marker D E blockRoom ≡ Ok) × (dataOf (held.Of D) E ≡ bytes) × Unique 𝓕 (piecesOf g) (lengthOf g) (reverse (heard pieces)) (blockOf g bytes))
@@ -141,7 +147,7 @@ module _ (𝓕 : FieldLaws) (g : Geometry) (bytes : List ℕ) (pieces : List (Li
       go (inl (ok, is, only)) =
           let u : Unique 𝓕 (piecesOf g) (lengthOf g) (heard pieces) (blockOf g bytes) = unique-back 𝓕 (piecesOf g) (lengthOf g) (heard pieces) (blockOf g bytes) only in
           record {
-            rebuilt = λ v behind. listed behind _ (rw (ok, is));
+            rebuilt = λ v behind. listed behind _ _ (rw (ok, is));
             left-open = λ a behind. absurd (a .differs (u (a .other) (a .is-block) (a .agrees)));
             either = inl u;
           }
@@ -149,7 +155,7 @@ module _ (𝓕 : FieldLaws) (g : Geometry) (bytes : List ℕ) (pieces : List (Li
           let a : Another 𝓕 (piecesOf g) (lengthOf g) (heard pieces) (blockOf g bytes) = another-back 𝓕 (piecesOf g) (lengthOf g) (heard pieces) (blockOf g bytes) left in
           record {
             rebuilt = λ u behind. absurd (a .differs (u (a .other) (a .is-block) (a .agrees)));
-            left-open = λ o behind. listed behind _ (rw ten);
+            left-open = λ o behind. listed behind _ _ (rw ten);
             either = inr a;
           }
 

@@ -125,5 +125,5 @@ purpose-witness = record {
   sends-late = sends-after takenLimit (afterMany takenLimit) (all-agree takenLimit);
   no-other-in-all = rw padded-data (no-other-after takenLimit);
   another-in-time = another-in-time;
-  ends-open = purpose fips Of3By2 theData (afterMany takenLimit) (sends-after takenLimit (heard (afterMany takenLimit)) (front-agrees takenLimit)) .left-open another-in-time [];
+  ends-open = purpose fips Of3By2 theData (afterMany takenLimit) (sends-after takenLimit (heard (afterMany takenLimit)) (front-agrees takenLimit)) .left-open another-in-time [] .0;
 }

@@ -1,4 +1,4 @@
--- What the listing is for: data that were padded, coded and sent come out at its end, once the pieces leave no other block.
+-- What the listing is for: data that were padded, coded and sent come out at its end, and are handed over, once the pieces leave no other block.
 use mathlib.Core.Path.{_≡_}
 use mathlib.Core.Logic.{_≢_, _⊎_}
 use mathlib.Core.List.{List, [], _∷_, _++_}
@@ -17,6 +17,8 @@ use Rattle.stream.specs.Streams.{recordsOf}
 use Rattle.decoder.specs.Records.{takenLimit}
 use Rattle.listing.specs.Lines.{headerLine, pieceLine, endLine, dataLine}
 use Rattle.listing.specs.Listing.{listingOf}
+use Rattle.joiner.specs.declared.Ending.the-variants.{Rebuilt, Open}
+use Rattle.joiner.specs.Runs.{closeOf}
 use Rattle.demands.specs.Calls.{linesFromNew}
 
 -- "The block is the data, M, then zeros" to k·L
@@ -66,10 +68,13 @@ pub record Another (𝓕 : FieldLaws) (k L : ℕ) (pieces block : List (List ℕ
   pub differs : other ≢ block
 
 -- "a stream of pieces truthful for the padded block that leave no other block, ended by an end record, has a listing that ends with `end 0`, the
--- length, the repeats and the data in hexadecimal; and where another block is left, with `end 10`". One of the two is so
+-- length, the repeats and the data in hexadecimal; and where another block is left, with `end 10`". In the first case the data are what is handed over,
+-- and in the second nothing is. One of the two is so
 pub record Purpose (𝓕 : FieldLaws) (g : Geometry) (bytes : List ℕ) (pieces counted : List (List ℕ)) : Type 0 where
   pub rebuilt : Unique 𝓕 (piecesOf g) (lengthOf g) counted (blockOf g bytes) → (behind : List ℕ)
-      → listingOf 𝓕 (sent g pieces behind) ≡ headerLine ++ (pieceLines 𝓕 g pieces ++ (endLine 0 (length bytes) (repeatsIn 𝓕 g pieces) ++ dataLine bytes))
+      → (listingOf 𝓕 (sent g pieces behind) ≡ headerLine ++ (pieceLines 𝓕 g pieces ++ (endLine 0 (length bytes) (repeatsIn 𝓕 g pieces) ++ dataLine bytes)))
+      × (closeOf 𝓕 (sent g pieces behind) ≡ record { ending = Rebuilt (length bytes); found = bytes })
   pub left-open : Another 𝓕 (piecesOf g) (lengthOf g) counted (blockOf g bytes) → (behind : List ℕ)
-      → listingOf 𝓕 (sent g pieces behind) ≡ headerLine ++ (pieceLines 𝓕 g pieces ++ endLine 10 0 (repeatsIn 𝓕 g pieces))
+      → (listingOf 𝓕 (sent g pieces behind) ≡ headerLine ++ (pieceLines 𝓕 g pieces ++ endLine 10 0 (repeatsIn 𝓕 g pieces)))
+      × (closeOf 𝓕 (sent g pieces behind) ≡ record { ending = Open; found = [] })
   pub either : Unique 𝓕 (piecesOf g) (lengthOf g) counted (blockOf g bytes) ⊎ Another 𝓕 (piecesOf g) (lengthOf g) counted (blockOf g bytes)
