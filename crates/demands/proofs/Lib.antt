@@ -8,4 +8,5 @@ pub mod Worked
 pub mod Resumed
 pub mod Fed
 pub mod Purpose
+pub mod HandsOver
 pub mod PurposeWitness

@@ -6,4 +6,5 @@ pub mod Witness
 pub mod Worked
 pub mod Resumed
 pub mod Purpose
+pub mod HandsOver
 pub mod PurposeWitness
