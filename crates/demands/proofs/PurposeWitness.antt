@@ -2,7 +2,7 @@
 -- Assumes nothing.
 use mathlib.Core.Path.{_≡_, refl, sym, ap, _∙_}
 use mathlib.Core.List.{List, [], _∷_, _++_, reverse}
-use Prim.Native.Nat.{ℕ, zero, suc}
+use Prim.Native.Nat.{ℕ, zero, suc, _<_}
 use native.Mathlib.Omega.{arith}
 use lib.ListN.{length, take, replicate, length-replicate}
 use lib.Seq.{take-append-seam}
@@ -15,13 +15,17 @@ use Rattle.linear.specs.Buffer.{rowsOf}
 use Rattle.linear.proofs.All.{all-head, all-append, all-append-left, all-append-right}
 use Rattle.block.specs.Padding.{marker, filled}
 use Rattle.stream.specs.declared.Geometry.the-variants.{Of3By2}
+use Rattle.stream.specs.Streams.{largest, recordsOf}
 use Rattle.decoder.specs.Records.{takenLimit}
-use Rattle.demands.specs.Purpose.{blockOf, heard, Sends, Another}
-use Rattle.demands.specs.PurposeWitness.{theData, afterMany, PurposeWitness}
+use Rattle.listing.specs.Listing.{blockRoom}
+use Rattle.joiner.proofs.Prints.{runs}
+use Rattle.demands.specs.Purpose.{blockOf, heard, Sends, sent, Another}
+use Rattle.demands.specs.PurposeWitness.{theData, afterMany, FiveJoined, PurposeWitness}
 use Rattle.demands.specs.Witness.{four, five, theBlock}
 use Rattle.demands.proofs.Demand3.{demand3}
 use Rattle.demands.proofs.Fed.{all-turned, unique-back}
 use Rattle.demands.proofs.Purpose.{purpose}
+use Rattle.demands.proofs.HandsOver.{hands-over}
 use Rattle.demands.proofs.Witness.{bytes-of, truthful, witness}
 
 padded-data : blockOf Of3By2 theData ≡ theBlock
@@ -114,11 +118,29 @@ module _ (n : ℕ) where
 another-in-time : Another fips 3 2 (heard (afterMany takenLimit)) (blockOf Of3By2 theData)
 another-in-time = rw padded-data (another-before takenLimit)
 
+-- ---- a machine that is fed with the five
+
+sends-five : Sends fips Of3By2 theData (reverse five) (reverse five)
+sends-five = sends (reverse five) (reverse five) sizes piece-bytes agrees
+
+short : length (sent Of3By2 (reverse five) []) < largest
+unfolding recordsOf
+short = omega arith
+
+five-joined : FiveJoined
+five-joined =
+    let area : List ℕ = replicate blockRoom 0 in
+    let (n, few, (text, last, block, run)) = runs fips area (sent Of3By2 (reverse five) []) (omega (arith, length-replicate {A = ℕ} blockRoom 0)) short in
+    let (ends, data-in) = hands-over fips Of3By2 theData (reverse five) (reverse five) (purpose fips Of3By2 theData (reverse five) sends-five) .rebuilt
+    (rw padded-data no-other) [] short n area text last block run in
+    record { turns = n; text = text; last = last; block = block; run = run; ends = ends; handed-over = data-in }
+
 pub purpose-witness : PurposeWitness
 unfolding Agrees
 purpose-witness = record {
-  sends-five = sends (reverse five) (reverse five) sizes piece-bytes agrees;
+  sends-five = sends-five;
   no-other = rw padded-data no-other;
+  five-joined = five-joined;
   sends-four = sends (reverse four) (reverse four) (all-append-left (reverse four) (fifth ∷ []) sizes) (all-append-left (reverse four) (fifth ∷ []) piece-bytes)
       (all-append-left (reverse four) (fifth ∷ []) agrees);
   another = rw padded-data (another (reverse four) four-agree);
