@@ -1,4 +1,4 @@
-# What examples/check and bin/check have in common: a folder for what they write, and the count. They source it.
+# What examples/check, bin/check and oracle/check have in common: a folder for what they write, and the count. They source it.
 # shellcheck shell=bash
 set -u
 export LC_ALL=C
