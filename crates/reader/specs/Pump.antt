@@ -20,7 +20,8 @@ use Rattle.reader.specs.declared.Progress.{Progress}
 use Rattle.reader.specs.declared.Progress.the-variants.{Of, Refused}
 use Rattle.reader.specs.Reading.{wanted, progress}
 
--- what a program says, in bytes or otherwise, before the stream, of a piece, at the end and at a stop; what it keeps from piece to piece; and why it would not take a piece
+-- what a program says, in bytes or otherwise, before the stream, of a piece, at the end and at a stop; what it keeps from piece to piece; and why it
+-- would not take a piece
 pub record Program (A S : Type 0) : Type 0 where
   pub header : List A
   pub line : S → Geometry → List ℕ → List A
