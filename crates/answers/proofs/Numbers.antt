@@ -10,11 +10,11 @@ use Rattle.answers.specs.declared.Answer.{Answer}
 use Rattle.answers.specs.declared.Answer.TheVariants.{Ok, CodingVectorLengthMismatch, DataLengthMismatch, PieceCountZero, DataLengthZero, PieceLengthZero, NotEnoughPiecesToRecode, PieceLengthTooShort, PieceNotUseful, ReceivedAllPieces, NotAllPiecesReceivedYet, InvalidDecodedDataFormat, InvalidPieceLength, InvalidOutputBuffer, SizeOverLimit, NoRoom, BadState, TooManyTaken, UnknownKind, CutRecord, MixedKinds}
 
 -- the cases by number; 14 to 19 stand for nothing
-abbrev byNumber : List Answer
-byNumber =
+abbrev by_number : List Answer
+by_number =
     Ok ∷ CodingVectorLengthMismatch ∷ DataLengthMismatch ∷ PieceCountZero ∷ DataLengthZero ∷ PieceLengthZero ∷ NotEnoughPiecesToRecode ∷ PieceLengthTooShort ∷ PieceNotUseful ∷ ReceivedAllPieces ∷ NotAllPiecesReceivedYet ∷ InvalidDecodedDataFormat ∷ InvalidPieceLength ∷ InvalidOutputBuffer ∷ Ok ∷ Ok ∷ Ok ∷ Ok ∷ Ok ∷ Ok ∷ SizeOverLimit ∷ NoRoom ∷ BadState ∷ TooManyTaken ∷ UnknownKind ∷ CutRecord ∷ MixedKinds ∷ []
 
-back : (a : Answer) → get_or byNumber (number_of a) Ok ≡ a
+back : (a : Answer) → get_or by_number (number_of a) Ok ≡ a
 back Ok = refl
 back CodingVectorLengthMismatch = refl
 back DataLengthMismatch = refl
@@ -37,5 +37,5 @@ back UnknownKind = refl
 back CutRecord = refl
 back MixedKinds = refl
 
-pub numbers-tell : (a b : Answer) → (a ≡ b) ↔ (number_of a ≡ number_of b)
-numbers-tell a b = (ap number_of, λ e. sym (back a) ∙ ap (λ (n : ℕ). get_or byNumber n Ok) e ∙ back b)
+pub numbers_tell : (a b : Answer) → (a ≡ b) ↔ (number_of a ≡ number_of b)
+numbers_tell a b = (ap number_of, λ e. sym (back a) ∙ ap (λ (n : ℕ). get_or by_number n Ok) e ∙ back b)

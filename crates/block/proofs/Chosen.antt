@@ -9,16 +9,16 @@ use borrow.Author.Tests.{not-true, not-false}
 use Rattle.answers.specs.Number.{number_of}
 use Rattle.answers.specs.declared.Answer.{Answer}
 use Rattle.answers.specs.declared.Answer.TheVariants.{Ok, BadState}
-use Rattle.linear.specs.Choice.{pick, ifZero}
-use Rattle.block.specs.Refusal.{ifOk}
+use Rattle.linear.specs.Choice.{pick, if_zero}
+use Rattle.block.specs.Refusal.{if_ok}
 use Rattle.block.specs.Counts.{counted}
 use Rattle.block.specs.declared.Count.TheVariants.{Of, Refused}
 
 -- a refusal is no Ok
-pub if-refused : {A : Type 0} (a : Answer) (x y : A) → 0 < number_of a → ifOk a x y ≡ y
-if-refused {A} a x y = go (number_of a)
+pub if_refused : {A : Type 0} (a : Answer) (x y : A) → 0 < number_of a → if_ok a x y ≡ y
+if_refused {A} a x y = go (number_of a)
   where
-    go : (n : ℕ) → 0 < n → ifZero n x y ≡ y
+    go : (n : ℕ) → 0 < n → if_zero n x y ≡ y
     go zero h = absurd (not-suc-le-zero h)
     go (suc n) h = refl
 
@@ -26,9 +26,9 @@ pub counts : {t : Bool} (n : ℕ) → t ≡ true → Of n ≡ counted t n
 unfolding counted
 counts n e = rw e refl
 
-pub counts-not : {t : Bool} (n : ℕ) → t ≡ false → Refused BadState ≡ counted t n
+pub counts_not : {t : Bool} (n : ℕ) → t ≡ false → Refused BadState ≡ counted t n
 unfolding counted
-counts-not n e = rw e refl
+counts_not n e = rw e refl
 
 -- ---- an order of refusals, from its end
 

@@ -13,9 +13,9 @@ use lib.Dec.{eqb}
 use lib.ListN.{length, get_or, replicate}
 use borrow.Author.Tests.{eq-eqb, ne_eqb}
 use Rattle.linear.specs.Choice.{pick}
-use Rattle.linear.specs.Rows.{allZero}
+use Rattle.linear.specs.Rows.{all_zero}
 use Rattle.block.specs.Padding.{LastMarker}
-use Rattle.block.specs.Reading.{later, lastMarker}
+use Rattle.block.specs.Reading.{later, last_marker}
 
 -- ---- what the search finds
 
@@ -23,10 +23,10 @@ pub data Found (M : ℕ) (xs : List ℕ) : Option ℕ → Type 0 where
   nowhere : ((i : ℕ) → i < length xs → get_or xs i 0 ≢ M) → Found M xs none
   at : {i : ℕ} → LastMarker M xs i → Found M xs (some i)
 
-pub found : (M : ℕ) (xs : List ℕ) → Found M xs (lastMarker M xs)
-unfolding lastMarker
+pub found : (M : ℕ) (xs : List ℕ) → Found M xs (last_marker M xs)
+unfolding last_marker
 found M [] = nowhere (λ i h e. not-suc-le-zero h)
-found M (x ∷ xs) = go (lastMarker M xs) (found M xs)
+found M (x ∷ xs) = go (last_marker M xs) (found M xs)
   where
     behind : ((i : ℕ) → i < length xs → get_or xs i 0 ≢ M) → (j : ℕ) → 0 < j → j < length (x ∷ xs) → get_or (x ∷ xs) j 0 ≢ M
     behind n zero p h e = not-suc-le-zero p
@@ -57,15 +57,15 @@ one_last {M} {xs} {i} {j} a b = go (dec_lt i j) (dec_lt j i)
     go (no h) (yes k) = absurd (b.last i k a.inside a.here)
     go (no h) (no k) = omega arith
 
-pub last-at : {M : ℕ} {xs : List ℕ} {i : ℕ} → LastMarker M xs i → lastMarker M xs ≡ some i
-last-at {M} {xs} {i} l = go (lastMarker M xs) (found M xs)
+pub last_at : {M : ℕ} {xs : List ℕ} {i : ℕ} → LastMarker M xs i → last_marker M xs ≡ some i
+last_at {M} {xs} {i} l = go (last_marker M xs) (found M xs)
   where
     go : (o : Option ℕ) → Found M xs o → o ≡ some i
     go none (nowhere n) = absurd (n i l.inside l.here)
     go (some j) (at k) = ap some (one_last k l)
 
-pub last-nowhere : {M : ℕ} (xs : List ℕ) → ((i : ℕ) → i < length xs → get_or xs i 0 ≢ M) → lastMarker M xs ≡ none
-last-nowhere {M} xs n = go (lastMarker M xs) (found M xs)
+pub last_nowhere : {M : ℕ} (xs : List ℕ) → ((i : ℕ) → i < length xs → get_or xs i 0 ≢ M) → last_marker M xs ≡ none
+last_nowhere {M} xs n = go (last_marker M xs) (found M xs)
   where
     go : (o : Option ℕ) → Found M xs o → o ≡ none
     go none f = refl
@@ -78,14 +78,14 @@ abbrev pub behind : ℕ → Option ℕ → Option ℕ → Option ℕ
 behind n first none = first
 behind n first (some i) = some (n + i)
 
-pub last-append : (M : ℕ) (xs ys : List ℕ) → lastMarker M (xs ++ ys) ≡ behind (length xs) (lastMarker M xs) (lastMarker M ys)
-unfolding lastMarker
-last-append M [] ys = go (lastMarker M ys)
+pub last_append : (M : ℕ) (xs ys : List ℕ) → last_marker M (xs ++ ys) ≡ behind (length xs) (last_marker M xs) (last_marker M ys)
+unfolding last_marker
+last_append M [] ys = go (last_marker M ys)
   where
     go : (o : Option ℕ) → o ≡ behind 0 none o
     go none = refl
     go (some i) = ap some (sym (zero-add i))
-last-append M (x ∷ xs) ys = ap (later (pick (eqb x M) (some 0) none)) (last-append M xs ys) ∙ go (lastMarker M xs) (lastMarker M ys)
+last_append M (x ∷ xs) ys = ap (later (pick (eqb x M) (some 0) none)) (last_append M xs ys) ∙ go (last_marker M xs) (last_marker M ys)
   where
     go : (a b : Option ℕ) → later (pick (eqb x M) (some 0) none) (behind (length xs) a b)
         ≡ behind (length (x ∷ xs)) (later (pick (eqb x M) (some 0) none) a) b
@@ -93,37 +93,37 @@ last-append M (x ∷ xs) ys = ap (later (pick (eqb x M) (some 0) none)) (last-ap
     go a (some i) = ap some (sym (suc-add (length xs) i))
 
 -- a second part with no marker, as zeros are
-pub last-front : (M : ℕ) (xs ys : List ℕ) → lastMarker M ys ≡ none → lastMarker M (xs ++ ys) ≡ lastMarker M xs
-last-front M xs ys e = last-append M xs ys ∙ ap (behind (length xs) (lastMarker M xs)) e
+pub last_front : (M : ℕ) (xs ys : List ℕ) → last_marker M ys ≡ none → last_marker M (xs ++ ys) ≡ last_marker M xs
+last_front M xs ys e = last_append M xs ys ∙ ap (behind (length xs) (last_marker M xs)) e
 
 -- ---- the test for zeros
 
-pub zero-append : (xs ys : List ℕ) → allZero (xs ++ ys) ≡ (allZero xs && allZero ys)
-unfolding allZero
-zero-append [] ys = refl
-zero-append (zero ∷ xs) ys = zero-append xs ys
-zero-append (suc x ∷ xs) ys = refl
+pub zero_append : (xs ys : List ℕ) → all_zero (xs ++ ys) ≡ (all_zero xs && all_zero ys)
+unfolding all_zero
+zero_append [] ys = refl
+zero_append (zero ∷ xs) ys = zero_append xs ys
+zero_append (suc x ∷ xs) ys = refl
 
-pub zero-replicate : (n : ℕ) → allZero (replicate n 0) ≡ true
-unfolding allZero
-zero-replicate zero = refl
-zero-replicate (suc n) = zero-replicate n
+pub zero_replicate : (n : ℕ) → all_zero (replicate n 0) ≡ true
+unfolding all_zero
+zero_replicate zero = refl
+zero_replicate (suc n) = zero_replicate n
 
-pub zero-each : (xs : List ℕ) → allZero xs ≡ true → (j : ℕ) → get_or xs j 0 ≡ 0
-unfolding allZero
-zero-each [] e j = refl
-zero-each (zero ∷ xs) e zero = refl
-zero-each (zero ∷ xs) e (suc j) = zero-each xs e j
-zero-each (suc x ∷ xs) e j = absurd (false≢true e)
+pub zero_each : (xs : List ℕ) → all_zero xs ≡ true → (j : ℕ) → get_or xs j 0 ≡ 0
+unfolding all_zero
+zero_each [] e j = refl
+zero_each (zero ∷ xs) e zero = refl
+zero_each (zero ∷ xs) e (suc j) = zero_each xs e j
+zero_each (suc x ∷ xs) e j = absurd (false≢true e)
 
-pub each-zero : (xs : List ℕ) → ((j : ℕ) → get_or xs j 0 ≡ 0) → allZero xs ≡ true
-unfolding allZero
-each-zero [] h = refl
-each-zero (zero ∷ xs) h = each-zero xs (λ j. h (suc j))
-each-zero (suc x ∷ xs) h = absurd (omega (arith, h 0))
+pub each_zero : (xs : List ℕ) → ((j : ℕ) → get_or xs j 0 ≡ 0) → all_zero xs ≡ true
+unfolding all_zero
+each_zero [] h = refl
+each_zero (zero ∷ xs) h = each_zero xs (λ j. h (suc j))
+each_zero (suc x ∷ xs) h = absurd (omega (arith, h 0))
 
-pub some-nonzero : (xs : List ℕ) → allZero xs ≡ false → (j : ℕ) × (get_or xs j 0 ≢ 0)
-unfolding allZero
-some-nonzero [] e = absurd (false≢true (sym e))
-some-nonzero (zero ∷ xs) e = let (j, n) = some-nonzero xs e in (suc j, n)
-some-nonzero (suc x ∷ xs) e = (0, λ z. omega arith)
+pub some_nonzero : (xs : List ℕ) → all_zero xs ≡ false → (j : ℕ) × (get_or xs j 0 ≢ 0)
+unfolding all_zero
+some_nonzero [] e = absurd (false≢true (sym e))
+some_nonzero (zero ∷ xs) e = let (j, n) = some_nonzero xs e in (suc j, n)
+some_nonzero (suc x ∷ xs) e = (0, λ z. omega arith)

@@ -12,110 +12,110 @@ use lib.ListN.{length, get_or, take, drop, replicate, length-append}
 use lib.Seq.{get_or-drop, get_or-append-add, get_or-append_seam, take-append_seam}
 use Rattle.answers.specs.Number.{number_of}
 use Rattle.answers.specs.declared.Answer.TheVariants.{InvalidDecodedDataFormat}
-use Rattle.linear.specs.Choice.{pick, ifZero}
-use Rattle.linear.specs.Rows.{allZero}
-use Rattle.linear.proofs.All.{zeros-entry}
+use Rattle.linear.specs.Choice.{pick, if_zero}
+use Rattle.linear.specs.Rows.{all_zero}
+use Rattle.linear.proofs.All.{zeros_entry}
 use Rattle.block.specs.declared.Padding.{Padding}
 use Rattle.block.specs.declared.Padding.TheVariants.{Data, MarkerAbsent, MarkerFirst, TailNotZero}
 use Rattle.block.specs.Padding.{filled, padded, LastMarker, Breaks, absent, first, tail, Carries}
-use Rattle.block.specs.Reading.{lastMarker, readAt, reading, answer_of}
-use Rattle.block.proofs.LastMarker.{Found, nowhere, at, found, last-at, last-nowhere, zero-each, each-zero, some-nonzero}
+use Rattle.block.specs.Reading.{last_marker, read_at, reading, answer_of}
+use Rattle.block.proofs.LastMarker.{Found, nowhere, at, found, last_at, last_nowhere, zero_each, each_zero, some_nonzero}
 
 -- ---- a case of the answer, and its reason
 
 pub data Reason (M : ℕ) (block : List ℕ) : Padding → Type 0 where
-  no-marker : ((i : ℕ) → i < length block → get_or block i 0 ≢ M) → Reason M block MarkerAbsent
-  no-data : LastMarker M block 0 → Reason M block MarkerFirst
-  no-zeros : (i j : ℕ) → LastMarker M block i → 0 < i → i < j → get_or block j 0 ≢ 0 → Reason M block TailNotZero
+  no_marker : ((i : ℕ) → i < length block → get_or block i 0 ≢ M) → Reason M block MarkerAbsent
+  no_data : LastMarker M block 0 → Reason M block MarkerFirst
+  no_zeros : (i j : ℕ) → LastMarker M block i → 0 < i → i < j → get_or block j 0 ≢ 0 → Reason M block TailNotZero
   carried : {n : ℕ} → LastMarker M block n → 0 < n → ((j : ℕ) → n < j → get_or block j 0 ≡ 0) → Reason M block (Data n)
 
 pub reason : (M : ℕ) (block : List ℕ) → Reason M block (reading M block)
-unfolding reading readAt
-reason M block = go (lastMarker M block) (found M block)
+unfolding reading read_at
+reason M block = go (last_marker M block) (found M block)
   where
-    behind : (i j : ℕ) → allZero (drop (suc i) block) ≡ true → i < j → get_or block j 0 ≡ 0
+    behind : (i j : ℕ) → all_zero (drop (suc i) block) ≡ true → i < j → get_or block j 0 ≡ 0
     behind i j e h =
         let k : suc i + (j - suc i) ≡ j = omega arith in
-        ap (λ (n : ℕ). get_or block n 0) (sym k) ∙ sym (get_or-drop (suc i) block (j - suc i) 0) ∙ zero-each (drop (suc i) block) e (j - suc i)
+        ap (λ (n : ℕ). get_or block n 0) (sym k) ∙ sym (get_or-drop (suc i) block (j - suc i) 0) ∙ zero_each (drop (suc i) block) e (j - suc i)
 
-    tested : (i : ℕ) → LastMarker M block i → 0 < i → (t : Bool) → allZero (drop (suc i) block) ≡ t → Reason M block (pick t (Data i) TailNotZero)
+    tested : (i : ℕ) → LastMarker M block i → 0 < i → (t : Bool) → all_zero (drop (suc i) block) ≡ t → Reason M block (pick t (Data i) TailNotZero)
     tested i l p true e = carried l p (λ j h. behind i j e h)
     tested i l p false e =
-        let (j, n) = some-nonzero (drop (suc i) block) e in
-        no-zeros i (suc i + j) l p (omega arith) (λ z. n (get_or-drop (suc i) block j 0 ∙ z))
+        let (j, n) = some_nonzero (drop (suc i) block) e in
+        no_zeros i (suc i + j) l p (omega arith) (λ z. n (get_or-drop (suc i) block j 0 ∙ z))
 
-    placed : (i : ℕ) → LastMarker M block i → Reason M block (ifZero i MarkerFirst (pick (allZero (drop (suc i) block)) (Data i) TailNotZero))
-    placed zero l = no-data l
-    placed (suc i) l = tested (suc i) l (omega arith) (allZero (drop (suc (suc i)) block)) refl
+    placed : (i : ℕ) → LastMarker M block i → Reason M block (if_zero i MarkerFirst (pick (all_zero (drop (suc i) block)) (Data i) TailNotZero))
+    placed zero l = no_data l
+    placed (suc i) l = tested (suc i) l (omega arith) (all_zero (drop (suc (suc i)) block)) refl
 
-    go : (o : Option ℕ) → Found M block o → Reason M block (readAt block o)
-    go none (nowhere n) = no-marker n
+    go : (o : Option ℕ) → Found M block o → Reason M block (read_at block o)
+    go none (nowhere n) = no_marker n
     go (some i) (at l) = placed i l
 
 module _ (M : ℕ) (block : List ℕ) where
   -- each reason is that of one answer
   told : {p : Padding} → Reason M block p → reading M block ≡ p
-  unfolding reading readAt
-  told (no-marker n) = ap (readAt block) (last-nowhere block n)
-  told (no-data l) = ap (readAt block) (last-at l)
-  told (no-zeros zero j l p h n) = absurd (omega arith)
-  told (no-zeros (suc i) j l p h n) = ap (readAt block) (last-at l) ∙ go (allZero (drop (suc (suc i)) block)) refl
+  unfolding reading read_at
+  told (no_marker n) = ap (read_at block) (last_nowhere block n)
+  told (no_data l) = ap (read_at block) (last_at l)
+  told (no_zeros zero j l p h n) = absurd (omega arith)
+  told (no_zeros (suc i) j l p h n) = ap (read_at block) (last_at l) ∙ go (all_zero (drop (suc (suc i)) block)) refl
     where
-      go : (t : Bool) → allZero (drop (suc (suc i)) block) ≡ t → pick t (Data (suc i)) TailNotZero ≡ TailNotZero
+      go : (t : Bool) → all_zero (drop (suc (suc i)) block) ≡ t → pick t (Data (suc i)) TailNotZero ≡ TailNotZero
       go true e =
           let k : suc (suc i) + (j - suc (suc i)) ≡ j = omega arith in
           absurd (n (ap (λ (m : ℕ). get_or block m 0) (sym k) ∙ sym (get_or-drop (suc (suc i)) block (j - suc (suc i)) 0)
-          ∙ zero-each (drop (suc (suc i)) block) e (j - suc (suc i))))
+          ∙ zero_each (drop (suc (suc i)) block) e (j - suc (suc i))))
       go false e = refl
   told (carried {n = zero} l p z) = absurd (omega arith)
   told (carried {n = suc n} l p z) =
-      ap (readAt block) (last-at l)
+      ap (read_at block) (last_at l)
       ∙ ap (λ (t : Bool). pick t (Data (suc n)) TailNotZero)
-      (each-zero (drop (suc (suc n)) block) (λ j. get_or-drop (suc (suc n)) block j 0 ∙ z (suc (suc n) + j) (omega arith)))
+      (each_zero (drop (suc (suc n)) block) (λ j. get_or-drop (suc (suc n)) block j 0 ∙ z (suc (suc n) + j) (omega arith)))
 
-  of-answer : {p : Padding} → reading M block ≡ p → Reason M block p
-  of-answer e = subst (Reason M block) e (reason M block)
+  of_answer : {p : Padding} → reading M block ≡ p → Reason M block p
+  of_answer e = subst (Reason M block) e (reason M block)
 
   -- ---- the three ways to break the rule
 
-  pub reads-absent : (reading M block ≡ MarkerAbsent) ↔ ((i : ℕ) → i < length block → get_or block i 0 ≢ M)
-  reads-absent = (λ e. go (of-answer e), λ n. told (no-marker n))
+  pub reads_absent : (reading M block ≡ MarkerAbsent) ↔ ((i : ℕ) → i < length block → get_or block i 0 ≢ M)
+  reads_absent = (λ e. go (of_answer e), λ n. told (no_marker n))
     where
       go : Reason M block MarkerAbsent → (i : ℕ) → i < length block → get_or block i 0 ≢ M
-      go (no-marker n) = n
+      go (no_marker n) = n
 
   pub reads_first : (reading M block ≡ MarkerFirst) ↔ LastMarker M block 0
-  reads_first = (λ e. go (of-answer e), λ l. told (no-data l))
+  reads_first = (λ e. go (of_answer e), λ l. told (no_data l))
     where
       go : Reason M block MarkerFirst → LastMarker M block 0
-      go (no-data l) = l
+      go (no_data l) = l
 
-  pub reads-tail : (reading M block ≡ TailNotZero) ↔ ((i : ℕ) × (j : ℕ) × LastMarker M block i × (0 < i) × (i < j) × (get_or block j 0 ≢ 0))
-  reads-tail = (λ e. go (of-answer e), λ t. told (no-zeros t.0 t.1 t.2 t.3 t.4 t.5))
+  pub reads_tail : (reading M block ≡ TailNotZero) ↔ ((i : ℕ) × (j : ℕ) × LastMarker M block i × (0 < i) × (i < j) × (get_or block j 0 ≢ 0))
+  reads_tail = (λ e. go (of_answer e), λ t. told (no_zeros t.0 t.1 t.2 t.3 t.4 t.5))
     where
       go : Reason M block TailNotZero → (i : ℕ) × (j : ℕ) × LastMarker M block i × (0 < i) × (i < j) × (get_or block j 0 ≢ 0)
-      go (no-zeros i j l p h n) = (i, j, l, p, h, n)
+      go (no_zeros i j l p h n) = (i, j, l, p, h, n)
 
-  pub reads-broken : Breaks M block ↔ (answer_of (reading M block) ≡ InvalidDecodedDataFormat)
+  pub reads_broken : Breaks M block ↔ (answer_of (reading M block) ≡ InvalidDecodedDataFormat)
   unfolding answer_of
-  reads-broken = (into, λ e. back (reason M block) e)
+  reads_broken = (into, λ e. back (reason M block) e)
     where
       into : Breaks M block → answer_of (reading M block) ≡ InvalidDecodedDataFormat
-      into (absent n) = ap answer_of (told (no-marker n))
-      into (first l) = ap answer_of (told (no-data l))
-      into (tail zero j l h n) = ap answer_of (told (no-data l))
-      into (tail (suc i) j l h n) = ap answer_of (told (no-zeros (suc i) j l (omega arith) h n))
+      into (absent n) = ap answer_of (told (no_marker n))
+      into (first l) = ap answer_of (told (no_data l))
+      into (tail zero j l h n) = ap answer_of (told (no_data l))
+      into (tail (suc i) j l h n) = ap answer_of (told (no_zeros (suc i) j l (omega arith) h n))
 
       back : {p : Padding} → Reason M block p → answer_of p ≡ InvalidDecodedDataFormat → Breaks M block
-      back (no-marker n) e = absent n
-      back (no-data l) e = first l
-      back (no-zeros i j l p h n) e = tail i j l h n
+      back (no_marker n) e = absent n
+      back (no_data l) e = first l
+      back (no_zeros i j l p h n) e = tail i j l h n
       back (carried l p z) e = let never : ◌≡◌ {A = ℕ} 0 11 = ap number_of e in absurd (omega arith)
 
   -- ---- the data
 
-  pub reads-data : (bytes : List ℕ) → Carries M block bytes ↔ ((reading M block ≡ Data (length bytes)) × (take (length bytes) block ≡ bytes))
-  reads-data bytes = (λ c. (told (carried c.marked c.nonempty c.zeros), c.front), λ h. go (of-answer h.0) h.1)
+  pub reads_data : (bytes : List ℕ) → Carries M block bytes ↔ ((reading M block ≡ Data (length bytes)) × (take (length bytes) block ≡ bytes))
+  reads_data bytes = (λ c. (told (carried c.marked c.nonempty c.zeros), c.front), λ h. go (of_answer h.0) h.1)
     where
       go : Reason M block (Data (length bytes)) → take (length bytes) block ≡ bytes → Carries M block bytes
       go (carried l p z) f = record { marked = l; nonempty = p; zeros = z; front = f }
@@ -123,9 +123,9 @@ module _ (M : ℕ) (block : List ℕ) where
 -- ---- there and back
 
 module _ (M : ℕ) (d : M ≢ 0) (bytes : List ℕ) (n : 0 < length bytes) where
-  pub filled-carries : (size : ℕ) → Carries M (filled M size bytes) bytes
+  pub filled_carries : (size : ℕ) → Carries M (filled M size bytes) bytes
   unfolding filled
-  filled-carries size = record {
+  filled_carries size = record {
     marked = record {
       inside = simp length-append (omega arith);
       here = get_or-append_seam bytes M (replicate (size - (length bytes + 1)) 0) 0;
@@ -140,11 +140,11 @@ module _ (M : ℕ) (d : M ≢ 0) (bytes : List ℕ) (n : 0 < length bytes) where
       behind r j h =
           let k : length bytes + suc (j - suc (length bytes)) ≡ j = omega arith in
           ap (λ (m : ℕ). get_or (bytes ++ (M ∷ replicate r 0)) m 0) (sym k)
-          ∙ get_or-append-add bytes (M ∷ replicate r 0) (suc (j - suc (length bytes))) 0 ∙ zeros-entry r (j - suc (length bytes))
+          ∙ get_or-append-add bytes (M ∷ replicate r 0) (suc (j - suc (length bytes))) 0 ∙ zeros_entry r (j - suc (length bytes))
 
   pub round_trip : (k : ℕ) → Carries M (padded M k bytes) bytes
   unfolding padded
-  round_trip k = filled-carries _
+  round_trip k = filled_carries _
 
-  pub reads-back : (k : ℕ) → (reading M (padded M k bytes) ≡ Data (length bytes)) × (take (length bytes) (padded M k bytes) ≡ bytes)
-  reads-back k = (reads-data M (padded M k bytes) bytes).0 (round_trip k)
+  pub reads_back : (k : ℕ) → (reading M (padded M k bytes) ≡ Data (length bytes)) × (take (length bytes) (padded M k bytes) ≡ bytes)
+  reads_back k = (reads_data M (padded M k bytes) bytes).0 (round_trip k)

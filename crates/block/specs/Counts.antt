@@ -11,10 +11,10 @@ unfoldable pub counted : Bool → ℕ → Count
 counted good n = pick good (Of n) (Refused BadState)
 
 -- the paper's number of an answer, and its values
-unfoldable pub countNumber : Count → ℕ
-countNumber (Of n) = 0
-countNumber (Refused a) = number_of a
+unfoldable pub count_number : Count → ℕ
+count_number (Of n) = 0
+count_number (Refused a) = number_of a
 
-unfoldable pub countValues : Count → List ℕ
-countValues (Of n) = n ∷ []
-countValues (Refused a) = []
+unfoldable pub count_values : Count → List ℕ
+count_values (Of n) = n ∷ []
+count_values (Refused a) = []

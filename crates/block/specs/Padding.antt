@@ -6,8 +6,8 @@ abbrev pub marker : ℕ
 marker = 0x81
 
 -- "For n data bytes, L is (n + 1) / k rounded up."
-unfoldable pub pieceLength : ℕ → ℕ → ℕ
-pieceLength n k = (n + 1 + (k - 1)) / k
+unfoldable pub piece_length : ℕ → ℕ → ℕ
+piece_length n k = (n + 1 + (k - 1)) / k
 
 -- "The block is the data, M, then zeros": to a block of `size` bytes
 unfoldable pub filled : ℕ → ℕ → List ℕ → List ℕ
@@ -15,7 +15,7 @@ filled M size bytes = bytes ++ (M ∷ replicate (size - (length bytes + 1)) 0)
 
 -- "to k·L"
 unfoldable pub padded : ℕ → ℕ → List ℕ → List ℕ
-padded M k bytes = filled M (k * pieceLength (length bytes) k) bytes
+padded M k bytes = filled M (k * piece_length (length bytes) k) bytes
 
 -- i is the index of the last M
 pub record LastMarker (M : ℕ) (block : List ℕ) (i : ℕ) : Type 0 where

@@ -4,8 +4,8 @@ use Rattle.std.specs.Prelude.{List, [], ◌∷◌, ℕ, suc, eqb, drop}
 use Rattle.std.proofs.Math.Option.{Option, none, some}
 use Rattle.answers.specs.declared.Answer.{Answer}
 use Rattle.answers.specs.declared.Answer.TheVariants.{Ok, InvalidDecodedDataFormat}
-use Rattle.linear.specs.Choice.{pick, ifZero}
-use Rattle.linear.specs.Rows.{allZero}
+use Rattle.linear.specs.Choice.{pick, if_zero}
+use Rattle.linear.specs.Rows.{all_zero}
 use Rattle.block.specs.declared.Padding.{Padding}
 use Rattle.block.specs.declared.Padding.TheVariants.{Data, MarkerAbsent, MarkerFirst, TailNotZero}
 
@@ -15,16 +15,16 @@ later here none = here
 later here (some i) = some (suc i)
 
 -- the index of the last M
-unfoldable pub lastMarker : ℕ → List ℕ → Option ℕ
-lastMarker M [] = none
-lastMarker M (x ∷ xs) = later (pick (eqb x M) (some 0) none) (lastMarker M xs)
+unfoldable pub last_marker : ℕ → List ℕ → Option ℕ
+last_marker M [] = none
+last_marker M (x ∷ xs) = later (pick (eqb x M) (some 0) none) (last_marker M xs)
 
-unfoldable pub readAt : List ℕ → Option ℕ → Padding
-readAt block none = MarkerAbsent
-readAt block (some i) = ifZero i MarkerFirst (pick (allZero (drop (suc i) block)) (Data i) TailNotZero)
+unfoldable pub read_at : List ℕ → Option ℕ → Padding
+read_at block none = MarkerAbsent
+read_at block (some i) = if_zero i MarkerFirst (pick (all_zero (drop (suc i) block)) (Data i) TailNotZero)
 
 unfoldable pub reading : ℕ → List ℕ → Padding
-reading M block = readAt block (lastMarker M block)
+reading M block = read_at block (last_marker M block)
 
 -- recovery answers 11 for all three
 unfoldable pub answer_of : Padding → Answer
@@ -34,8 +34,8 @@ answer_of MarkerFirst = InvalidDecodedDataFormat
 answer_of TailNotZero = InvalidDecodedDataFormat
 
 -- and how many bytes it writes
-unfoldable pub dataLength : Padding → ℕ
-dataLength (Data n) = n
-dataLength MarkerAbsent = 0
-dataLength MarkerFirst = 0
-dataLength TailNotZero = 0
+unfoldable pub data_length : Padding → ℕ
+data_length (Data n) = n
+data_length MarkerAbsent = 0
+data_length MarkerFirst = 0
+data_length TailNotZero = 0

@@ -2,8 +2,8 @@
 -- with Ok.
 use Rattle.answers.specs.Number.{number_of}
 use Rattle.answers.specs.declared.Answer.{Answer}
-use Rattle.linear.specs.Choice.{ifZero}
+use Rattle.linear.specs.Choice.{if_zero}
 
 -- the first where the answer is Ok, else the second
-abbrev pub ifOk {ℓ} : {A : Type ℓ} → Answer → A → A → A
-ifOk a x y = ifZero (number_of a) x y
+abbrev pub if_ok {ℓ} : {A : Type ℓ} → Answer → A → A → A
+if_ok a x y = if_zero (number_of a) x y

@@ -2,9 +2,9 @@
 use Rattle.std.specs.Prelude.{Bool, ◌&&◌, ◌||◌, not, ℕ, eqb, ltb}
 
 -- "SizeOverLimit: k over 256, L over 4,096"
-unfoldable pub overLimit : ℕ → ℕ → Bool
-overLimit k L = ltb 256 k || ltb 4096 L
+unfoldable pub over_limit : ℕ → ℕ → Bool
+over_limit k L = ltb 256 k || ltb 4096 L
 
 -- the sizes of a record that is not in a bad state: within the limits, and neither is 0
 unfoldable pub sized : ℕ → ℕ → Bool
-sized k L = not (eqb k 0) && (not (eqb L 0) && not (overLimit k L))
+sized k L = not (eqb k 0) && (not (eqb L 0) && not (over_limit k L))

@@ -1,7 +1,7 @@
 // What encoder, recoder and decoder share: the sizes of a block and their limits, the marker (src/full/consts.rs) and, in specs/, the
 // padding rule.
 ghost use Rattle.std.specs.Prelude.{◌≡◌};
-ghost use Rattle.block.specs.Sizes.{overLimit, sized};
+ghost use Rattle.block.specs.Sizes.{over_limit, sized};
 
 use answers::Answer;
 
@@ -9,7 +9,7 @@ pub const BOUNDARY_MARKER: u8 = 0x81;
 
 // More than 256 pieces, or pieces of more than 4,096 bytes.
 pub fn over_limit(piece_count: usize, piece_byte_len: usize) -> bool
-    ensures { result ≡ overLimit piece_count piece_byte_len }
+    ensures { result ≡ over_limit piece_count piece_byte_len }
 {
     if 256 < piece_count {
         return true;

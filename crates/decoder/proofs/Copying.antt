@@ -8,15 +8,15 @@ use native.Mathlib.Numerals.{add-one}
 use native.Mathlib.Omega.{arith}
 use lib.ListN.{length, take, drop, length-drop, drop_of_length-le}
 use lib.Seq.{take-add, take_at, drop_at, drop-drop, take-take, take_all, take-append-le, length-take-le}
-use Rattle.linear.proofs.Buffer.{put, length-put, row-end}
+use Rattle.linear.proofs.Buffer.{put, length_put, row_end}
 use Rattle.decoder.proofs.Payload.{payloads, from_row}
 
 -- the bytes of row i, as far as they are wanted
-pub row-part : (k L n : ℕ) (buffer : List ℕ) (i m : ℕ) → i < n → m ≤ L → n * (k + L) ≤ length buffer
+pub row_part : (k L n : ℕ) (buffer : List ℕ) (i m : ℕ) → i < n → m ≤ L → n * (k + L) ≤ length buffer
     → take m (drop (i * L) (payloads k L n buffer)) ≡ take m (drop (i * (k + L) + k) buffer)
-row-part k L n buffer i m h l w =
+row_part k L n buffer i m h l w =
     let row : List ℕ = take L (drop (i * (k + L) + k) buffer) in
-    let long : length row ≡ L = length-take-le L (drop (i * (k + L) + k) buffer) (simp length-drop (omega (arith, row-end (k + L) h))) in
+    let long : length row ≡ L = length-take-le L (drop (i * (k + L) + k) buffer) (simp length-drop (omega (arith, row_end (k + L) h))) in
     ap (take m) (from_row k L n i buffer h w)
     ∙ take-append-le m row (drop (i * L + L) (payloads k L n buffer)) (omega (arith, long))
     ∙ take-take m L (drop (i * (k + L) + k) buffer) l
@@ -54,7 +54,7 @@ turns {block} {old} {now} {L} {i} {at} r n t h w e l q = record {
       λ k.
       let whole : at + n ≡ i * L + L = omega (arith, t.row h) in
       whole ∙ sym (suc-mul i L) ∙ ap (λ (x : ℕ). x * L) (sym (add-one i));
-  long = length-put at n r now (omega (arith, t.long)) l ∙ t.long;
+  long = length_put at n r now (omega (arith, t.long)) l ∙ t.long;
   front = pasted block old now r at n (omega arith) t.front q;
 }
 

@@ -13,8 +13,8 @@ module _ (c L : ℕ) where
   abbrev pub payloads : ℕ → List ℕ → List ℕ
   payloads n buffer = flat (map (drop c) (rows_of (c + L) n buffer))
 
-  suc-row : (n f : ℕ) → suc n * f ≡ f + n * f
-  suc-row n f = suc-mul n f ∙ add_comm (n * f) f
+  suc_row : (n f : ℕ) → suc n * f ≡ f + n * f
+  suc_row n f = suc-mul n f ∙ add_comm (n * f) f
 
   pub payload : (buffer : List ℕ) → c ≤ length buffer → drop c (take (c + L) buffer) ≡ take L (drop c buffer)
   payload buffer h = ap (drop c) (take-add c L buffer) ∙ drop_at (take c buffer) (take L (drop c buffer)) c (length-take-le c buffer h)
@@ -26,14 +26,14 @@ module _ (c L : ℕ) where
   long : (buffer : List ℕ) → c + L ≤ length buffer → length (take L (drop c buffer)) ≡ L
   long buffer h = length-take-le L (drop c buffer) (simp length-drop (omega arith))
 
-  pub length-payloads : (n : ℕ) (buffer : List ℕ) → n * (c + L) ≤ length buffer → length (payloads n buffer) ≡ n * L
+  pub length_payloads : (n : ℕ) (buffer : List ℕ) → n * (c + L) ≤ length buffer → length (payloads n buffer) ≡ n * L
   unfolding rows_of flat
-  length-payloads zero buffer h = sym (zero-mul L)
-  length-payloads (suc n) buffer h =
-      let w : c + L ≤ length buffer = omega (arith, suc-row n (c + L)) in
-      let v : n * (c + L) ≤ length (drop (c + L) buffer) = simp length-drop (omega (arith, suc-row n (c + L))) in
+  length_payloads zero buffer h = sym (zero-mul L)
+  length_payloads (suc n) buffer h =
+      let w : c + L ≤ length buffer = omega (arith, suc_row n (c + L)) in
+      let v : n * (c + L) ≤ length (drop (c + L) buffer) = simp length-drop (omega (arith, suc_row n (c + L))) in
       ap length (first n buffer (omega arith)) ∙ length-append (take L (drop c buffer)) (payloads n (drop (c + L) buffer))
-      ∙ (λ j. long buffer w j + length-payloads n (drop (c + L) buffer) v j) ∙ sym (suc-row n L)
+      ∙ (λ j. long buffer w j + length_payloads n (drop (c + L) buffer) v j) ∙ sym (suc_row n L)
 
   -- past the first row
   past : (n m : ℕ) (buffer : List ℕ) → c + L ≤ length buffer → drop (L + m) (payloads (suc n) buffer) ≡ drop m (payloads n (drop (c + L) buffer))
@@ -47,15 +47,15 @@ module _ (c L : ℕ) where
       → drop (i * L) (payloads n buffer) ≡ take L (drop (i * (c + L) + c) buffer) ++ drop (i * L + L) (payloads n buffer)
   from_row zero i buffer h w = absurd (not-suc-le-zero h)
   from_row (suc n) zero buffer h w =
-      let r : c + L ≤ length buffer = omega (arith, suc-row n (c + L)) in
+      let r : c + L ≤ length buffer = omega (arith, suc_row n (c + L)) in
       rw (zero-mul L, zero-mul (c + L), zero-add c, zero-add L)
       (first n buffer (omega arith) ∙ ap (λ (l : List ℕ). take L (drop c buffer) ++ l) (sym (rw (add-zero L) at (past n 0 buffer r))))
   from_row (suc n) (suc i) buffer h w =
-      let r : c + L ≤ length buffer = omega (arith, suc-row n (c + L)) in
-      let v : n * (c + L) ≤ length (drop (c + L) buffer) = simp length-drop (omega (arith, suc-row n (c + L))) in
-      let place : c + L + (i * (c + L) + c) ≡ suc i * (c + L) + c = omega (arith, suc-row i (c + L)) in
-      let next : L + (i * L + L) ≡ suc i * L + L = omega (arith, suc-row i L) in
-      ap (λ (k : ℕ). drop k (payloads (suc n) buffer)) (suc-row i L) ∙ past n (i * L) buffer r
+      let r : c + L ≤ length buffer = omega (arith, suc_row n (c + L)) in
+      let v : n * (c + L) ≤ length (drop (c + L) buffer) = simp length-drop (omega (arith, suc_row n (c + L))) in
+      let place : c + L + (i * (c + L) + c) ≡ suc i * (c + L) + c = omega (arith, suc_row i (c + L)) in
+      let next : L + (i * L + L) ≡ suc i * L + L = omega (arith, suc_row i L) in
+      ap (λ (k : ℕ). drop k (payloads (suc n) buffer)) (suc_row i L) ∙ past n (i * L) buffer r
       ∙ from_row n i (drop (c + L) buffer) (le_of_suc-le-suc h) v
       ∙ (λ j. take L ((drop-drop (i * (c + L) + c) (c + L) buffer ∙ ap (λ (k : ℕ). drop k buffer) place) j) ++ sym (past n (i * L + L) buffer r) j)
       ∙ ap (λ (k : ℕ). take L (drop (suc i * (c + L) + c) buffer) ++ drop k (payloads (suc n) buffer)) next

@@ -7,84 +7,84 @@ use native.Mathlib.Nat.{mul-le-mul}
 use native.Mathlib.Omega.{arith}
 use lib.Dec.{eqb, leb, ltb}
 use borrow.Author.Tests.{not-true, not-false, eqb-false, leb-true, leb-false, ltb-false, ne_eqb, le-leb, lt-ltb, le-ltb}
-use Rattle.linear.proofs.Choice.{and-true, or-false}
-use Rattle.linear.proofs.Buffer.{row-end}
-use Rattle.block.specs.Sizes.{overLimit, sized}
+use Rattle.linear.proofs.Choice.{and_true, or_false}
+use Rattle.linear.proofs.Buffer.{row_end}
+use Rattle.block.specs.Sizes.{over_limit, sized}
 use Rattle.decoder.specs.declared.Decoder.{Decoder}
-use Rattle.decoder.specs.Records.{k_of, LOf, FOf, rowsIn, takenBy, sound, badState}
+use Rattle.decoder.specs.Records.{k_of, l_of, f_of, rows_in, taken_by, sound, bad_state}
 
-pub not-below : (a b : ℕ) → leb a b ≡ not (ltb b a)
-not-below a b = go (leb a b) refl
+pub not_below : (a b : ℕ) → leb a b ≡ not (ltb b a)
+not_below a b = go (leb a b) refl
   where
     go : (t : Bool) → leb a b ≡ t → t ≡ not (ltb b a)
     go true e = rw (le-ltb b a (leb-true a b e))
     go false e = rw (lt-ltb b a (leb-false a b e))
 
 module _ (k L : ℕ) where
-  pub within : overLimit k L ≡ false → (k ≤ 256) × (L ≤ 4096)
-  unfolding overLimit
+  pub within : over_limit k L ≡ false → (k ≤ 256) × (L ≤ 4096)
+  unfolding over_limit
   within e =
-      let o = or-false (ltb 256 k) (ltb 4096 L) e in
+      let o = or_false (ltb 256 k) (ltb 4096 L) e in
       (ltb-false _ _ o.0, ltb-false _ _ o.1)
 
-  pub matrix-small : k ≤ 256 → L ≤ 4096 → k * (k + L) ≤ 1114112
-  matrix-small h l = mul-le-mul {n₂ = 256} {m₂ = 4352} h (omega arith)
+  pub matrix_small : k ≤ 256 → L ≤ 4096 → k * (k + L) ≤ 1114112
+  matrix_small h l = mul-le-mul {n₂ = 256} {m₂ = 4352} h (omega arith)
 
-  pub block-small : k ≤ 256 → L ≤ 4096 → k * L ≤ 1048576
-  block-small h l = mul-le-mul {n₂ = 256} {m₂ = 4096} h l
+  pub block_small : k ≤ 256 → L ≤ 4096 → k * L ≤ 1048576
+  block_small h l = mul-le-mul {n₂ = 256} {m₂ = 4096} h l
 
 pub record Sound (d : Decoder) : Type 0 where
-  pub some-pieces : k_of d ≡ 0 → ⊥
-  pub some_bytes : LOf d ≡ 0 → ⊥
+  pub some_pieces : k_of d ≡ 0 → ⊥
+  pub some_bytes : l_of d ≡ 0 → ⊥
   pub pieces : k_of d ≤ 256
-  pub bytes : LOf d ≤ 4096
-  pub rows-pieces : rowsIn d ≤ k_of d
-  pub rows_taken : rowsIn d ≤ takenBy d
-  pub taken : takenBy d ≤ 65535
+  pub bytes : l_of d ≤ 4096
+  pub rows_pieces : rows_in d ≤ k_of d
+  pub rows_taken : rows_in d ≤ taken_by d
+  pub taken : taken_by d ≤ 65535
 
 pub record Holds (d : Decoder) (n : ℕ) : Type 0 where
   pub numbers : Sound d
-  pub room : k_of d * FOf d ≤ n
+  pub room : k_of d * f_of d ≤ n
 
 module _ (d : Decoder) where
   pub told : sound d ≡ true → Sound d
   unfolding sound sized
   told e =
-      let s = and-true (sized (k_of d) (LOf d)) _ e in
-      let k = and-true (not (eqb (k_of d) 0)) _ s.0 in
-      let L = and-true (not (eqb (LOf d) 0)) _ k.1 in
-      let r = and-true (leb (rowsIn d) (k_of d)) _ s.1 in
-      let t = and-true (leb (rowsIn d) (takenBy d)) _ r.1 in
-      let w = within (k_of d) (LOf d) (not-true _ L.1) in
+      let s = and_true (sized (k_of d) (l_of d)) _ e in
+      let k = and_true (not (eqb (k_of d) 0)) _ s.0 in
+      let L = and_true (not (eqb (l_of d) 0)) _ k.1 in
+      let r = and_true (leb (rows_in d) (k_of d)) _ s.1 in
+      let t = and_true (leb (rows_in d) (taken_by d)) _ r.1 in
+      let w = within (k_of d) (l_of d) (not-true _ L.1) in
       record {
-        some-pieces = eqb-false _ _ (not-true _ k.0);
+        some_pieces = eqb-false _ _ (not-true _ k.0);
         some_bytes = eqb-false _ _ (not-true _ L.0);
         pieces = w.0;
         bytes = w.1;
-        rows-pieces = leb-true _ _ r.0;
+        rows_pieces = leb-true _ _ r.0;
         rows_taken = leb-true _ _ t.0;
         taken = leb-true _ _ t.1;
       }
 
   pub shown : Sound d → sound d ≡ true
-  unfolding sound sized overLimit
+  unfolding sound sized over_limit
   shown s =
       simp (
-        ne_eqb _ _ s.some-pieces,
+        ne_eqb _ _ s.some_pieces,
         ne_eqb _ _ s.some_bytes,
         le-ltb _ _ s.pieces,
         le-ltb _ _ s.bytes,
-        le-leb _ _ s.rows-pieces,
+        le-leb _ _ s.rows_pieces,
         le-leb _ _ s.rows_taken,
         le-leb _ _ s.taken,
       )
 
-  pub holds : (n : ℕ) → badState d n ≡ false → Holds d n
-  unfolding badState
+  pub holds : (n : ℕ) → bad_state d n ≡ false → Holds d n
+  unfolding bad_state
   holds n e =
-      let o = or-false (not (sound d)) (ltb n (k_of d * FOf d)) e in
+      let o = or_false (not (sound d)) (ltb n (k_of d * f_of d)) e in
       record { numbers = told (not-false (sound d) o.0); room = ltb-false _ _ o.1 }
 
   -- row i lies within the matrix
-  pub row_in : {n i : ℕ} → Holds d n → i < k_of d → i * FOf d + FOf d ≤ n
-  row_in h l = omega (arith, row-end (FOf d) l, h.room)
+  pub row_in : {n i : ℕ} → Holds d n → i < k_of d → i * f_of d + f_of d ≤ n
+  row_in h l = omega (arith, row_end (f_of d) l, h.room)

@@ -11,28 +11,28 @@ use Rattle.decoder.specs.declared.Complete.{Complete}
 use Rattle.decoder.specs.declared.Complete.TheVariants as complete
 use Rattle.decoder.specs.declared.Recovered.{Recovered}
 use Rattle.decoder.specs.declared.Recovered.TheVariants as recovered
-use Rattle.decoder.specs.Records.{k_of, LOf, rowsIn, takenBy}
+use Rattle.decoder.specs.Records.{k_of, l_of, rows_in, taken_by}
 
 abbrev pub values_of : Decoder → List ℕ
-values_of d = k_of d ∷ LOf d ∷ rowsIn d ∷ takenBy d ∷ []
+values_of d = k_of d ∷ l_of d ∷ rows_in d ∷ taken_by d ∷ []
 
-unfoldable pub madeNumber : Made → ℕ
-madeNumber (new.Of d) = 0
-madeNumber (new.Refused a) = number_of a
+unfoldable pub made_number : Made → ℕ
+made_number (new.Of d) = 0
+made_number (new.Refused a) = number_of a
 
-unfoldable pub madeValues : Made → List ℕ
-madeValues (new.Of d) = values_of d
-madeValues (new.Refused a) = []
+unfoldable pub made_values : Made → List ℕ
+made_values (new.Of d) = values_of d
+made_values (new.Refused a) = []
 
-unfoldable pub takenNumber : Taken → ℕ
-takenNumber (piece.Useful d) = 0
-takenNumber (piece.NotUseful d) = 8
-takenNumber (piece.Refused a) = number_of a
+unfoldable pub taken_number : Taken → ℕ
+taken_number (piece.Useful d) = 0
+taken_number (piece.NotUseful d) = 8
+taken_number (piece.Refused a) = number_of a
 
-unfoldable pub takenValues : Taken → List ℕ
-takenValues (piece.Useful d) = values_of d
-takenValues (piece.NotUseful d) = values_of d
-takenValues (piece.Refused a) = []
+unfoldable pub taken_values : Taken → List ℕ
+taken_values (piece.Useful d) = values_of d
+taken_values (piece.NotUseful d) = values_of d
+taken_values (piece.Refused a) = []
 
 -- how many pieces an answer of this number takes: "Taken equals the number of answers 0 and 8"
 unfoldable pub takes : ℕ → ℕ
@@ -44,18 +44,18 @@ kept d (piece.Useful e) = e
 kept d (piece.NotUseful e) = e
 kept d (piece.Refused a) = d
 
-unfoldable pub completeNumber : Complete → ℕ
-completeNumber (complete.Of b) = 0
-completeNumber (complete.Refused a) = number_of a
+unfoldable pub complete_number : Complete → ℕ
+complete_number (complete.Of b) = 0
+complete_number (complete.Refused a) = number_of a
 
-unfoldable pub completeValues : Complete → List ℕ
-completeValues (complete.Of b) = pick b 1 0 ∷ []
-completeValues (complete.Refused a) = []
+unfoldable pub complete_values : Complete → List ℕ
+complete_values (complete.Of b) = pick b 1 0 ∷ []
+complete_values (complete.Refused a) = []
 
-unfoldable pub recoveredNumber : Recovered → ℕ
-recoveredNumber (recovered.Data n) = 0
-recoveredNumber (recovered.Refused a) = number_of a
+unfoldable pub recovered_number : Recovered → ℕ
+recovered_number (recovered.Data n) = 0
+recovered_number (recovered.Refused a) = number_of a
 
-unfoldable pub recoveredValues : Recovered → List ℕ
-recoveredValues (recovered.Data n) = n ∷ []
-recoveredValues (recovered.Refused a) = []
+unfoldable pub recovered_values : Recovered → List ℕ
+recovered_values (recovered.Data n) = n ∷ []
+recovered_values (recovered.Refused a) = []

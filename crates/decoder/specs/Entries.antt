@@ -4,11 +4,11 @@ use Rattle.answers.specs.declared.Answer.{Answer}
 use Rattle.answers.specs.declared.Answer.TheVariants.{Ok, PieceCountZero, PieceLengthZero, ReceivedAllPieces, NotAllPiecesReceivedYet, InvalidPieceLength, SizeOverLimit, NoRoom, BadState, TooManyTaken}
 use Rattle.galois.specs.FieldLaws.{FieldLaws}
 use Rattle.linear.specs.Choice.{pick}
-use Rattle.linear.specs.Rows.{takePiece}
+use Rattle.linear.specs.Rows.{take_piece}
 use Rattle.linear.specs.Buffer.{rows_of, flat, holding}
-use Rattle.block.specs.Sizes.{overLimit}
-use Rattle.block.specs.Refusal.{ifOk}
-use Rattle.block.specs.Reading.{reading, answer_of, dataLength}
+use Rattle.block.specs.Sizes.{over_limit}
+use Rattle.block.specs.Refusal.{if_ok}
+use Rattle.block.specs.Reading.{reading, answer_of, data_length}
 use Rattle.decoder.specs.declared.Decoder.{Decoder}
 use Rattle.decoder.specs.declared.Made.{Made}
 use Rattle.decoder.specs.declared.Made.TheVariants as new
@@ -18,69 +18,69 @@ use Rattle.decoder.specs.declared.Complete.{Complete}
 use Rattle.decoder.specs.declared.Complete.TheVariants as complete
 use Rattle.decoder.specs.declared.Recovered.{Recovered}
 use Rattle.decoder.specs.declared.Recovered.TheVariants as recovered
-use Rattle.decoder.specs.Records.{k_of, LOf, FOf, rowsIn, takenBy, takenLimit, sound, badState, held_rows}
+use Rattle.decoder.specs.Records.{k_of, l_of, f_of, rows_in, taken_by, taken_limit, sound, bad_state, held_rows}
 
 -- the record of k pieces of L bytes with these counts
-abbrev pub decoderOf : ℕ → ℕ → ℕ → ℕ → Decoder
-decoderOf k L rows taken =
+abbrev pub decoder_of : ℕ → ℕ → ℕ → ℕ → Decoder
+decoder_of k L rows taken =
     record { required_piece_count = k; piece_byte_len = L; useful_piece_count = record { 0 = rows }; received_piece_count = record { 0 = taken } }
 
 -- "new decoder: 5, 3, 20, 21", with room for so many bytes
-unfoldable pub newRefusal : ℕ → ℕ → ℕ → Answer
-newRefusal L k room =
+unfoldable pub new_refusal : ℕ → ℕ → ℕ → Answer
+new_refusal L k room =
     pick (eqb L 0) PieceLengthZero
     (pick (eqb k 0) PieceCountZero
-    (pick (overLimit k L) SizeOverLimit
+    (pick (over_limit k L) SizeOverLimit
     (pick (ltb room (k * (k + L))) NoRoom Ok)))
 
 -- "A new decoder clears the first k·F bytes."
 pub record NewDecoder (L k : ℕ) (elements : List ℕ) (r : Made) (last : List ℕ) : Type 0 where
-  pub result : r ≡ ifOk (newRefusal L k (length elements)) (new.Of (decoderOf k L 0 0)) (new.Refused (newRefusal L k (length elements)))
-  pub left : last ≡ ifOk (newRefusal L k (length elements)) (replicate (k * (k + L)) 0 ++ drop (k * (k + L)) elements) elements
+  pub result : r ≡ if_ok (new_refusal L k (length elements)) (new.Of (decoder_of k L 0 0)) (new.Refused (new_refusal L k (length elements)))
+  pub left : last ≡ if_ok (new_refusal L k (length elements)) (replicate (k * (k + L)) 0 ++ drop (k * (k + L)) elements) elements
 
 -- "take a piece: 22, 9, 12, 23", with a matrix and a piece of these lengths
-unfoldable pub takeRefusal : Decoder → ℕ → ℕ → Answer
-takeRefusal d room size =
-    pick (badState d room) BadState
-    (pick (eqb (rowsIn d) (k_of d)) ReceivedAllPieces
-    (pick (not (eqb size (FOf d))) InvalidPieceLength
-    (pick (leb takenLimit (takenBy d)) TooManyTaken Ok)))
+unfoldable pub take_refusal : Decoder → ℕ → ℕ → Answer
+take_refusal d room size =
+    pick (bad_state d room) BadState
+    (pick (eqb (rows_in d) (k_of d)) ReceivedAllPieces
+    (pick (not (eqb size (f_of d))) InvalidPieceLength
+    (pick (leb taken_limit (taken_by d)) TooManyTaken Ok)))
 
 -- the rows after the piece
-unfoldable pub rowsAfter : FieldLaws → Decoder → List ℕ → List ℕ → List (List ℕ)
-rowsAfter 𝓕 d elements full = takePiece 𝓕 (k_of d) (held_rows d elements) full
+unfoldable pub rows_after : FieldLaws → Decoder → List ℕ → List ℕ → List (List ℕ)
+rows_after 𝓕 d elements full = take_piece 𝓕 (k_of d) (held_rows d elements) full
 
 -- the record after it: as many rows, and one piece more taken
 unfoldable pub after : FieldLaws → Decoder → List ℕ → List ℕ → Decoder
-after 𝓕 d elements full = decoderOf (k_of d) (LOf d) (length (rowsAfter 𝓕 d elements full)) (takenBy d + 1)
+after 𝓕 d elements full = decoder_of (k_of d) (l_of d) (length (rows_after 𝓕 d elements full)) (taken_by d + 1)
 
 -- "The answer is 8 if the row count is what it was before, else 0."
 unfoldable pub taking : FieldLaws → Decoder → List ℕ → List ℕ → Taken
 taking 𝓕 d elements full =
-    pick (eqb (length (rowsAfter 𝓕 d elements full)) (rowsIn d)) (piece.NotUseful (after 𝓕 d elements full)) (piece.Useful (after 𝓕 d elements full))
+    pick (eqb (length (rows_after 𝓕 d elements full)) (rows_in d)) (piece.NotUseful (after 𝓕 d elements full)) (piece.Useful (after 𝓕 d elements full))
 
 -- "A taken piece leaves zeros from the last held row up to k·F, that row itself kept. Bytes past k·F never change."
 pub record Decoded (𝓕 : FieldLaws) (d : Decoder) (elements full : List ℕ) (r : Taken) (last : List ℕ) : Type 0 where
-  pub result : r ≡ ifOk (takeRefusal d (length elements) (length full)) (taking 𝓕 d elements full) (piece.Refused (takeRefusal d (length elements) (length full)))
-  pub left : last ≡ ifOk (takeRefusal d (length elements) (length full)) (holding (k_of d) (FOf d) (rowsAfter 𝓕 d elements full) elements) elements
+  pub result : r ≡ if_ok (take_refusal d (length elements) (length full)) (taking 𝓕 d elements full) (piece.Refused (take_refusal d (length elements) (length full)))
+  pub left : last ≡ if_ok (take_refusal d (length elements) (length full)) (holding (k_of d) (f_of d) (rows_after 𝓕 d elements full) elements) elements
 
 -- "The decoder is complete when rows = k."
 unfoldable pub completed : Decoder → Complete
-completed d = pick (sound d) (complete.Of (eqb (rowsIn d) (k_of d))) (complete.Refused BadState)
+completed d = pick (sound d) (complete.Of (eqb (rows_in d) (k_of d))) (complete.Refused BadState)
 
 -- the block that the k rows hold, as one list: the payloads in row order
-unfoldable pub blockIn : Decoder → List ℕ → List ℕ
-blockIn d elements = flat (map (drop (k_of d)) (rows_of (FOf d) (k_of d) elements))
+unfoldable pub block_in : Decoder → List ℕ → List ℕ
+block_in d elements = flat (map (drop (k_of d)) (rows_of (f_of d) (k_of d) elements))
 
 -- "recover: 22, 10, 21, 11", with a matrix, and room for so many bytes
-unfoldable pub recoverRefusal : ℕ → Decoder → List ℕ → ℕ → Answer
-recoverRefusal M d elements room =
-    pick (badState d (length elements)) BadState
-    (pick (not (eqb (rowsIn d) (k_of d))) NotAllPiecesReceivedYet
-    (pick (ltb room (k_of d * LOf d)) NoRoom
-    (answer_of (reading M (blockIn d elements)))))
+unfoldable pub recover_refusal : ℕ → Decoder → List ℕ → ℕ → Answer
+recover_refusal M d elements room =
+    pick (bad_state d (length elements)) BadState
+    (pick (not (eqb (rows_in d) (k_of d))) NotAllPiecesReceivedYet
+    (pick (ltb room (k_of d * l_of d)) NoRoom
+    (answer_of (reading M (block_in d elements)))))
 
 -- "Recovery writes that many bytes; the rest of the buffer, the matrix and the record stay."
 pub record Recovery (M : ℕ) (d : Decoder) (elements out : List ℕ) (r : Recovered) (last : List ℕ) : Type 0 where
-  pub result : r ≡ ifOk (recoverRefusal M d elements (length out)) (recovered.Data (dataLength (reading M (blockIn d elements)))) (recovered.Refused (recoverRefusal M d elements (length out)))
-  pub left : last ≡ ifOk (recoverRefusal M d elements (length out)) (take (dataLength (reading M (blockIn d elements))) (blockIn d elements) ++ drop (dataLength (reading M (blockIn d elements))) out) out
+  pub result : r ≡ if_ok (recover_refusal M d elements (length out)) (recovered.Data (data_length (reading M (block_in d elements)))) (recovered.Refused (recover_refusal M d elements (length out)))
+  pub left : last ≡ if_ok (recover_refusal M d elements (length out)) (take (data_length (reading M (block_in d elements))) (block_in d elements) ++ drop (data_length (reading M (block_in d elements))) out) out

@@ -3,12 +3,12 @@
 ghost use Rattle.std.specs.Prelude.{◌≡◌, false, not, ◌+◌, ◌-◌, ◌*◌, ◌≤◌, min, length, take, drop};
 ghost use Rattle.answers.specs.declared.Answer.TheVariants.{Ok};
 ghost use Rattle.field.specs.FieldOf.{field_of};
-ghost use Rattle.linear.specs.Rows.{allZero};
+ghost use Rattle.linear.specs.Rows.{all_zero};
 ghost use Rattle.block.specs.Padding.{marker};
-ghost use Rattle.block.specs.Reading.{lastMarker, reading};
+ghost use Rattle.block.specs.Reading.{last_marker, reading};
 ghost use Rattle.block.specs.Counts.{counted};
-ghost use Rattle.decoder.specs.Records.{sound, badState};
-ghost use Rattle.decoder.specs.Entries.{NewDecoder, takeRefusal, Decoded, completed, blockIn, Recovery};
+ghost use Rattle.decoder.specs.Records.{sound, bad_state};
+ghost use Rattle.decoder.specs.Entries.{NewDecoder, take_refusal, Decoded, completed, block_in, Recovery};
 ghost use Rattle.decoder.specs.Search.{found};
 
 use answers::Answer;
@@ -111,7 +111,7 @@ impl Decoder {
 
     // They are, and k rows fit into n bytes.
     pub fn holds(self, n: usize) -> bool
-        ensures { result ≡ not (badState self n) }
+        ensures { result ≡ not (bad_state self n) }
     {
         if !self.is_sound() {
             return false;
@@ -197,7 +197,7 @@ impl Decoder {
 
     // The same where nothing refuses it; then neither do the rules.
     fn take_piece(mut self, f: Field, elements: &mut [u8], full_coded_piece: &[u8]) -> Taken
-        requires { takeRefusal self (length elements.old) (length full_coded_piece.now) ≡ Ok }
+        requires { take_refusal self (length elements.old) (length full_coded_piece.now) ≡ Ok }
         ensures { Decoded (field_of f) self elements.old full_coded_piece.now result elements.new }
     {
         let rows_before = self.useful_piece_count.0;
@@ -254,8 +254,8 @@ impl Decoder {
 
     // What the padding of the block tells. The block is read where it stands, in the payloads of the rows.
     fn get_final_data_len(self, elements: &[u8]) -> Padding
-        requires { badState self (length elements.now) ≡ false }
-        ensures { result ≡ reading marker (blockIn self elements.now) }
+        requires { bad_state self (length elements.now) ≡ false }
+        ensures { result ≡ reading marker (block_in self elements.now) }
     {
         let Found::At(n) = self.find_marker(elements) else {
             return Padding::MarkerAbsent;
@@ -272,8 +272,8 @@ impl Decoder {
 
     // The index of the block's last marker: rows from the last one up.
     fn find_marker(self, elements: &[u8]) -> Found
-        requires { badState self (length elements.now) ≡ false }
-        ensures { result ≡ found (lastMarker marker (blockIn self elements.now)) }
+        requires { bad_state self (length elements.now) ≡ false }
+        ensures { result ≡ found (last_marker marker (block_in self elements.now)) }
     {
         let k = self.required_piece_count;
         let len = self.piece_byte_len;
@@ -292,8 +292,8 @@ impl Decoder {
 
     // Whether the block's bytes from `at` on are zero: the rest of a row, then the rows behind it.
     fn is_zero_from(self, elements: &[u8], at: usize) -> bool
-        requires { badState self (length elements.now) ≡ false }
-        ensures { result ≡ allZero (drop at (blockIn self elements.now)) }
+        requires { bad_state self (length elements.now) ≡ false }
+        ensures { result ≡ all_zero (drop at (block_in self elements.now)) }
     {
         let k = self.required_piece_count;
         let len = self.piece_byte_len;
@@ -314,9 +314,9 @@ impl Decoder {
 
     // The block's first bytes, as many as `data` has, copied row by row.
     fn copy_data(self, elements: &[u8], data: &mut [u8])
-        requires elements_value { badState self (length elements.now) ≡ false }
+        requires elements_value { bad_state self (length elements.now) ≡ false }
         requires data_len_bound { length «data».old ≤ self.required_piece_count * self.piece_byte_len }
-        ensures { «data».new ≡ take (length «data».old) (blockIn self elements.now) }
+        ensures { «data».new ≡ take (length «data».old) (block_in self elements.now) }
     {
         let k = self.required_piece_count;
         let len = self.piece_byte_len;
@@ -342,7 +342,7 @@ enum Found {
 }
 
 fn last_marker(part: &[u8]) -> Found
-    ensures { result ≡ found (lastMarker marker part.now) }
+    ensures { result ≡ found (last_marker marker part.now) }
 {
     let n = part.len();
     for rev_index in 0..n {

@@ -9,51 +9,51 @@ use lib.Dec.{eqb}
 use lib.ListN.{length, get_or}
 use Rattle.answers.specs.Number.{number_of}
 use Rattle.answers.specs.declared.Answer.{Answer}
-use Rattle.answers.proofs.Numbers.{numbers-tell}
+use Rattle.answers.proofs.Numbers.{numbers_tell}
 use Rattle.galois.specs.FieldLaws.{FieldLaws}
 use Rattle.linear.specs.Choice.{pick}
 use Rattle.decoder_matrix.specs.declared.DecoderMatrix.{DecoderMatrix}
 use Rattle.decoder_matrix.specs.declared.Matrix.{Matrix}
 use Rattle.decoder_matrix.specs.declared.Matrix.TheVariants.{Of, Refused}
-use Rattle.decoder_matrix.specs.Matrix.{numberOfMatrix, valuesOfMatrix, sizesFit}
-use Rattle.decoder_matrix.specs.Outcomes.{hasRoom, RowAdded, holdsRows, Swapped, Reduced}
+use Rattle.decoder_matrix.specs.Matrix.{number_of_matrix, values_of_matrix, sizes_fit}
+use Rattle.decoder_matrix.specs.Outcomes.{has_room, RowAdded, holds_rows, Swapped, Reduced}
 
-pub one-row-added : {m : DecoderMatrix} {elements row last last' : List ℕ} {r r' : Matrix} → RowAdded m elements row r last → RowAdded m elements row r' last'
+pub one_row_added : {m : DecoderMatrix} {elements row last last' : List ℕ} {r r' : Matrix} → RowAdded m elements row r last → RowAdded m elements row r' last'
     → (r ≡ r') × (last ≡ last')
-one-row-added a b = (a.answer ∙ sym b.answer, a.left ∙ sym b.left)
+one_row_added a b = (a.answer ∙ sym b.answer, a.left ∙ sym b.left)
 
-pub one-swapped : {m : DecoderMatrix} {elements last last' : List ℕ} {i j : ℕ} {r r' : Answer} → Swapped m elements i j r last → Swapped m elements i j r' last'
+pub one_swapped : {m : DecoderMatrix} {elements last last' : List ℕ} {i j : ℕ} {r r' : Answer} → Swapped m elements i j r last → Swapped m elements i j r' last'
     → (r ≡ r') × (last ≡ last')
-one-swapped a b = (a.answer ∙ sym b.answer, a.left ∙ sym b.left)
+one_swapped a b = (a.answer ∙ sym b.answer, a.left ∙ sym b.left)
 
-pub one-reduced : {𝓕 : FieldLaws} {m : DecoderMatrix} {elements last last' : List ℕ} {r r' : Matrix} → Reduced 𝓕 m elements r last → Reduced 𝓕 m elements r' last'
+pub one_reduced : {𝓕 : FieldLaws} {m : DecoderMatrix} {elements last last' : List ℕ} {r r' : Matrix} → Reduced 𝓕 m elements r last → Reduced 𝓕 m elements r' last'
     → (r ≡ r') × (last ≡ last')
-one-reduced a b = (a.answer ∙ sym b.answer, a.left ∙ sym b.left)
+one_reduced a b = (a.answer ∙ sym b.answer, a.left ∙ sym b.left)
 
 -- ---- the paper's numbers
 
-pub told : (r r' : Matrix) → numberOfMatrix r ≡ numberOfMatrix r' → valuesOfMatrix r ≡ valuesOfMatrix r' → r ≡ r'
+pub told : (r r' : Matrix) → number_of_matrix r ≡ number_of_matrix r' → values_of_matrix r ≡ values_of_matrix r' → r ≡ r'
 told (Of m) (Of m') n v =
-    let at : (i : ℕ) → get_or (valuesOfMatrix (Of m)) i 0 ≡ get_or (valuesOfMatrix (Of m')) i 0 = λ i. ap (λ (l : List ℕ). get_or l i 0) v in
+    let at : (i : ℕ) → get_or (values_of_matrix (Of m)) i 0 ≡ get_or (values_of_matrix (Of m')) i 0 = λ i. ap (λ (l : List ℕ). get_or l i 0) v in
     λ i. Of (record { num_pieces_coded_together = at 0 i; rows = at 1 i; cols = at 2 i })
 told (Of m) (Refused a) n v = cc
 told (Refused a) (Of m) n v = cc
-told (Refused a) (Refused b) n v = ap Refused ((numbers-tell a b).1 n)
+told (Refused a) (Refused b) n v = ap Refused ((numbers_tell a b).1 n)
 
 through : {A : Type 0} (f : A → ℕ) (t : Bool) (a b : A) → f (pick t a b) ≡ pick t (f a) (f b)
 through f true a b = refl
 through f false a b = refl
 
-pub added-number : {m : DecoderMatrix} {elements row last : List ℕ} {r : Matrix} → RowAdded m elements row r last
-    → numberOfMatrix r ≡ pick (hasRoom m (length elements)) (pick (eqb (length row) m.cols) 0 12) 22
-added-number {m} {elements} {row} a =
-    ap numberOfMatrix a.answer ∙ through numberOfMatrix (hasRoom m (length elements)) _ _
-    ∙ ap (λ (n : ℕ). pick (hasRoom m (length elements)) n 22) (through numberOfMatrix (eqb (length row) m.cols) _ _)
+pub added_number : {m : DecoderMatrix} {elements row last : List ℕ} {r : Matrix} → RowAdded m elements row r last
+    → number_of_matrix r ≡ pick (has_room m (length elements)) (pick (eqb (length row) m.cols) 0 12) 22
+added_number {m} {elements} {row} a =
+    ap number_of_matrix a.answer ∙ through number_of_matrix (has_room m (length elements)) _ _
+    ∙ ap (λ (n : ℕ). pick (has_room m (length elements)) n 22) (through number_of_matrix (eqb (length row) m.cols) _ _)
 
-pub swapped-number : {m : DecoderMatrix} {elements last : List ℕ} {i j : ℕ} {r : Answer} → Swapped m elements i j r last
-    → number_of r ≡ pick (holdsRows m (length elements) i j) 0 22
-swapped-number {m} {elements} {last} {i} {j} a = ap number_of a.answer ∙ through number_of (holdsRows m (length elements) i j) _ _
+pub swapped_number : {m : DecoderMatrix} {elements last : List ℕ} {i j : ℕ} {r : Answer} → Swapped m elements i j r last
+    → number_of r ≡ pick (holds_rows m (length elements) i j) 0 22
+swapped_number {m} {elements} {last} {i} {j} a = ap number_of a.answer ∙ through number_of (holds_rows m (length elements) i j) _ _
 
-pub reduced-number : {𝓕 : FieldLaws} {m : DecoderMatrix} {elements last : List ℕ} {r : Matrix} → Reduced 𝓕 m elements r last
-    → numberOfMatrix r ≡ pick (sizesFit m (length elements)) 0 22
-reduced-number {𝓕} {m} {elements} a = ap numberOfMatrix a.answer ∙ through numberOfMatrix (sizesFit m (length elements)) _ _
+pub reduced_number : {𝓕 : FieldLaws} {m : DecoderMatrix} {elements last : List ℕ} {r : Matrix} → Reduced 𝓕 m elements r last
+    → number_of_matrix r ≡ pick (sizes_fit m (length elements)) 0 22
+reduced_number {𝓕} {m} {elements} a = ap number_of_matrix a.answer ∙ through number_of_matrix (sizes_fit m (length elements)) _ _

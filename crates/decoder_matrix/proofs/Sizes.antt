@@ -6,14 +6,14 @@ use Prim.Native.Nat.{ℕ, ◌*◌, ◌/◌, ◌≤◌, ◌<◌}
 use native.Mathlib.Nat.{mul-le-mul_right, le-div_iff_mul-le, div-lt_iff_lt-mul}
 use native.Mathlib.Omega.{arith}
 use lib.Dec.{leb}
-use Rattle.linear.proofs.Choice.{and-true}
+use Rattle.linear.proofs.Choice.{and_true}
 use borrow.Author.Tests.{leb-true, leb-false, le-leb, lt-leb}
 use Rattle.decoder_matrix.specs.declared.DecoderMatrix.{DecoderMatrix}
-use Rattle.decoder_matrix.specs.Matrix.{k_of, sizesFit}
+use Rattle.decoder_matrix.specs.Matrix.{k_of, sizes_fit}
 
 -- the test by a division, where k · c may be no usize
-pub by-division : (k c n : ℕ) → 0 < c → leb k (n / c) ≡ leb (k * c) n
-by-division k c n h = go (leb (k * c) n) refl
+pub by_division : (k c n : ℕ) → 0 < c → leb k (n / c) ≡ leb (k * c) n
+by_division k c n h = go (leb (k * c) n) refl
   where
     go : (t : Bool) → leb (k * c) n ≡ t → leb k (n / c) ≡ t
     go true e = le-leb k (n / c) ((le-div_iff_mul-le h).1 (leb-true (k * c) n e))
@@ -26,23 +26,23 @@ pub record Sized (m : DecoderMatrix) (n : ℕ) : Type 0 where
   pub held : m.rows * m.cols ≤ n
 
 module _ (m : DecoderMatrix) (n : ℕ) where
-  pub sized : sizesFit m n ≡ true → Sized m n
-  unfolding sizesFit
+  pub sized : sizes_fit m n ≡ true → Sized m n
+  unfolding sizes_fit
   sized e =
-      let a = and-true (leb m.rows (k_of m)) _ e in
-      let b = and-true (leb (k_of m) m.cols) _ a.1 in
+      let a = and_true (leb m.rows (k_of m)) _ e in
+      let b = and_true (leb (k_of m) m.cols) _ a.1 in
       let few : m.rows ≤ k_of m = leb-true m.rows (k_of m) a.0 in
       let room : k_of m * m.cols ≤ n = leb-true (k_of m * m.cols) n b.1 in
       record { few = few; wide = leb-true (k_of m) m.cols b.0; room = room; held = omega (arith, mul-le-mul_right m.cols few) }
 
-  pub fitting : m.rows ≤ k_of m → k_of m ≤ m.cols → sizesFit m n ≡ leb (k_of m * m.cols) n
-  unfolding sizesFit
+  pub fitting : m.rows ≤ k_of m → k_of m ≤ m.cols → sizes_fit m n ≡ leb (k_of m * m.cols) n
+  unfolding sizes_fit
   fitting f w = rw (le-leb m.rows (k_of m) f, le-leb (k_of m) m.cols w)
 
-  pub too_many : k_of m < m.rows → sizesFit m n ≡ false
-  unfolding sizesFit
+  pub too_many : k_of m < m.rows → sizes_fit m n ≡ false
+  unfolding sizes_fit
   too_many h = rw (lt-leb m.rows (k_of m) h)
 
-  pub too-narrow : m.rows ≤ k_of m → m.cols < k_of m → sizesFit m n ≡ false
-  unfolding sizesFit
-  too-narrow f h = rw (le-leb m.rows (k_of m) f, lt-leb (k_of m) m.cols h)
+  pub too_narrow : m.rows ≤ k_of m → m.cols < k_of m → sizes_fit m n ≡ false
+  unfolding sizes_fit
+  too_narrow f h = rw (le-leb m.rows (k_of m) f, lt-leb (k_of m) m.cols h)

@@ -7,10 +7,10 @@ use Prim.Native.Nat.{ℕ, ◌+◌, ◌*◌, ◌≤◌, ◌<◌}
 use native.Mathlib.Omega.{arith}
 use lib.ListN.{length, get_or, set, length-set}
 use lib.Seq.{get_or-set_same, get_or-set_other, set-set, set_comm, set-get_or}
-use Rattle.linear.specs.Rows.{entry, swapRows}
+use Rattle.linear.specs.Rows.{entry, swap_rows}
 use Rattle.linear.specs.Buffer.{rows_of, Ruled}
-use Rattle.linear.proofs.Buffer.{entry_at, length-rowsOf, length-row, store-row}
-use Rattle.rows.proofs.Turned.{Turned, starts, finds, turns, ends-all}
+use Rattle.linear.proofs.Buffer.{entry_at, length_rows_of, length_row, store_row}
+use Rattle.rows.proofs.Turned.{Turned, starts, finds, turns, ends_all}
 
 module _ (f n : ℕ) {old now : List ℕ} (rows : List (List ℕ)) (j t : ℕ) (row : List ℕ) (h : j < n) (k : t < f) (even : length rows ≡ n)
     (u : Ruled f n old now (set rows j row)) where
@@ -24,7 +24,7 @@ module _ (f n : ℕ) {old now : List ℕ} (rows : List (List ℕ)) (j t : ℕ) (
   -- a byte stored into the row
   pub stored : (v : ℕ) → n * f ≤ length now → Ruled f n old (set now (j * f + t) v) (set rows j (set row t v))
   stored v w =
-      let s = store-row f n now j t v h k w in
+      let s = store_row f n now j t v h k w in
       record {
         rows =
             s.rows ∙ ap (λ (l : List (List ℕ)). set l j (set (get_or l j []) t v)) u.rows
@@ -58,50 +58,50 @@ module _ (f n : ℕ) (old : List ℕ) (w : n * f ≤ length old) where
   row_of i = get_or R i []
 
   even : length R ≡ n
-  even = length-rowsOf f n old
+  even = length_rows_of f n old
 
-  same-ruled : {want : List (List ℕ)} → R ≡ want → Ruled f n old old want
-  same-ruled e = record { rows = e; rest = refl }
+  same_ruled : {want : List (List ℕ)} → R ≡ want → Ruled f n old old want
+  same_ruled e = record { rows = e; rest = refl }
 
   module _ (from to : ℕ) (hf : from < n) (ht : to < n) (apart : from ≢ to) where
-    pub moving-starts : Moving f n from to 0 old old
-    moving-starts = record {
+    pub moving_starts : Moving f n from to 0 old old
+    moving_starts = record {
       row = row_of to;
-      turned = starts 0 (omega arith) (length-row f n from old hf w ∙ sym (length-row f n to old ht w)) refl;
-      ruled = same-ruled (sym (set-get_or R to []));
+      turned = starts 0 (omega arith) (length_row f n from old hf w ∙ sym (length_row f n to old ht w)) refl;
+      ruled = same_ruled (sym (set-get_or R to []));
       long = refl;
     }
 
     module _ {t : ℕ} {now : List ℕ} (s : Moving f n from to t old now) where
-      pub moving-byte : t < f → get_or now (from * f + t) 0 ≡ get_or (row_of from) t 0
+      pub moving_byte : t < f → get_or now (from * f + t) 0 ≡ get_or (row_of from) t 0
       unfolding entry
-      moving-byte k =
+      moving_byte k =
           sym (entry_at f n from t now hf k) ∙ ap (λ (l : List (List ℕ)). get_or (get_or l from []) t 0) s.ruled.rows
           ∙ ap (λ (r : List ℕ). get_or r t 0) (get_or-set_other R to from s.row [] apart)
 
       pub moves : {v : ℕ} → t < f → v ≡ get_or now (from * f + t) 0 → Moving f n from to (t + 1) old (set now (to * f + t) v)
       moves {v} k e = record {
         row = set s.row t v;
-        turned = turns 0 s.turned (omega (arith, length-row f n to old ht w)) (e ∙ moving-byte k);
+        turned = turns 0 s.turned (omega (arith, length_row f n to old ht w)) (e ∙ moving_byte k);
         ruled = stored f n R to t s.row ht k even s.ruled v (omega (arith, s.long));
         long = length-set now (to * f + t) v ∙ s.long;
       }
 
-      pub moving-ends : f ≤ t → Ruled f n old now (set R to (row_of from))
-      moving-ends h =
-          subst (λ (r : List ℕ). Ruled f n old now (set R to r)) (ends-all s.turned (omega (arith, length-row f n to old ht w))) s.ruled
+      pub moving_ends : f ≤ t → Ruled f n old now (set R to (row_of from))
+      moving_ends h =
+          subst (λ (r : List ℕ). Ruled f n old now (set R to r)) (ends_all s.turned (omega (arith, length_row f n to old ht w))) s.ruled
 
   module _ (i j : ℕ) (hi : i < n) (hj : j < n) (apart : i ≢ j) where
-    pub swapping-starts : Swapping f n i j 0 old old
-    swapping-starts =
-        let li : length (row_of i) ≡ f = length-row f n i old hi w in
-        let lj : length (row_of j) ≡ f = length-row f n j old hj w in
+    pub swapping_starts : Swapping f n i j 0 old old
+    swapping_starts =
+        let li : length (row_of i) ≡ f = length_row f n i old hi w in
+        let lj : length (row_of j) ≡ f = length_row f n j old hj w in
         record {
           one = row_of i;
           other = row_of j;
           first = starts 0 (omega arith) (lj ∙ sym li) refl;
           second = starts 0 (omega arith) (li ∙ sym lj) refl;
-          ruled = same-ruled (sym (ap (λ (l : List (List ℕ)). set l j (row_of j)) (set-get_or R i []) ∙ set-get_or R j []));
+          ruled = same_ruled (sym (ap (λ (l : List (List ℕ)). set l j (row_of j)) (set-get_or R i []) ∙ set-get_or R j []));
           long = refl;
         }
 
@@ -109,8 +109,8 @@ module _ (f n : ℕ) (old : List ℕ) (w : n * f ≤ length old) where
       crossed : {b : List ℕ} (x y : List ℕ) → Ruled f n old b (set (set R i x) j y) → Ruled f n old b (set (set R j y) i x)
       crossed {b} x y u = subst (Ruled f n old b) (set_comm R i j x y apart) u
 
-      crossed-back : {b : List ℕ} (x y : List ℕ) → Ruled f n old b (set (set R j y) i x) → Ruled f n old b (set (set R i x) j y)
-      crossed-back {b} x y u = subst (Ruled f n old b) (sym (set_comm R i j x y apart)) u
+      crossed_back : {b : List ℕ} (x y : List ℕ) → Ruled f n old b (set (set R j y) i x) → Ruled f n old b (set (set R i x) j y)
+      crossed_back {b} x y u = subst (Ruled f n old b) (sym (set_comm R i j x y apart)) u
 
       evenly : (k : ℕ) (x : List ℕ) → length (set R k x) ≡ n
       evenly k x = length-set R k x ∙ even
@@ -120,30 +120,30 @@ module _ (f n : ℕ) (old : List ℕ) (w : n * f ≤ length old) where
       swaps {x} {y} k ex ey =
           let wn : n * f ≤ length now = omega (arith, s.long) in
           let fx : x ≡ get_or (row_of i) t 0 =
-          ex ∙ read_byte f n (set R j s.other) i t s.one hi k (evenly j s.other) (crossed s.one s.other s.ruled) ∙ finds 0 s.first (omega (arith, length-row f n i old hi w)) in
+          ex ∙ read_byte f n (set R j s.other) i t s.one hi k (evenly j s.other) (crossed s.one s.other s.ruled) ∙ finds 0 s.first (omega (arith, length_row f n i old hi w)) in
           let fy : y ≡ get_or (row_of j) t 0 =
-          ey ∙ read_byte f n (set R i s.one) j t s.other hj k (evenly i s.one) s.ruled ∙ finds 0 s.second (omega (arith, length-row f n j old hj w)) in
+          ey ∙ read_byte f n (set R i s.one) j t s.other hj k (evenly i s.one) s.ruled ∙ finds 0 s.second (omega (arith, length_row f n j old hj w)) in
           let mid : Ruled f n old (set now (i * f + t) y) (set (set R i (set s.one t y)) j s.other) =
-          crossed-back (set s.one t y) s.other (stored f n (set R j s.other) i t s.one hi k (evenly j s.other) (crossed s.one s.other s.ruled) y wn) in
+          crossed_back (set s.one t y) s.other (stored f n (set R j s.other) i t s.one hi k (evenly j s.other) (crossed s.one s.other s.ruled) y wn) in
           record {
             one = set s.one t y;
             other = set s.other t x;
-            first = turns 0 s.first (omega (arith, length-row f n i old hi w)) fy;
-            second = turns 0 s.second (omega (arith, length-row f n j old hj w)) fx;
+            first = turns 0 s.first (omega (arith, length_row f n i old hi w)) fy;
+            second = turns 0 s.second (omega (arith, length_row f n j old hj w)) fx;
             ruled =
                 stored f n (set R i (set s.one t y)) j t s.other hj k (evenly i (set s.one t y)) mid x
                 (omega (arith, length-set now (i * f + t) y));
             long = length-set (set now (i * f + t) y) (j * f + t) x ∙ length-set now (i * f + t) y ∙ s.long;
           }
 
-      pub swapping-ends : f ≤ t → Ruled f n old now (swapRows R i j)
-      unfolding swapRows
-      swapping-ends h =
-          subst (λ (x : List ℕ). Ruled f n old now (set (set R i x) j (row_of i))) (ends-all s.first (omega (arith, length-row f n i old hi w)))
-          (subst (λ (y : List ℕ). Ruled f n old now (set (set R i s.one) j y)) (ends-all s.second (omega (arith, length-row f n j old hj w))) s.ruled)
+      pub swapping_ends : f ≤ t → Ruled f n old now (swap_rows R i j)
+      unfolding swap_rows
+      swapping_ends h =
+          subst (λ (x : List ℕ). Ruled f n old now (set (set R i x) j (row_of i))) (ends_all s.first (omega (arith, length_row f n i old hi w)))
+          (subst (λ (y : List ℕ). Ruled f n old now (set (set R i s.one) j y)) (ends_all s.second (omega (arith, length_row f n j old hj w))) s.ruled)
 
 -- a row exchanged with itself
-pub swap-same : (rows : List (List ℕ)) (i j : ℕ) → i ≡ j → swapRows rows i j ≡ rows
-unfolding swapRows
-swap-same rows i j e =
+pub swap_same : (rows : List (List ℕ)) (i j : ℕ) → i ≡ j → swap_rows rows i j ≡ rows
+unfolding swap_rows
+swap_same rows i j e =
     ap (λ (x : ℕ). set (set rows i (get_or rows x [])) x (get_or rows i [])) (sym e) ∙ set-set rows i (get_or rows i []) (get_or rows i []) ∙ set-get_or rows i []

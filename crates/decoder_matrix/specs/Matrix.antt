@@ -12,26 +12,26 @@ abbrev pub k_of : DecoderMatrix → ℕ
 k_of m = m.num_pieces_coded_together
 
 -- the paper's number of an answer
-abbrev pub numberOfMatrix : Matrix → ℕ
-numberOfMatrix (Of m) = number_of Ok
-numberOfMatrix (Refused a) = number_of a
+abbrev pub number_of_matrix : Matrix → ℕ
+number_of_matrix (Of m) = number_of Ok
+number_of_matrix (Refused a) = number_of a
 
 -- and its values: the record's numbers, or none
-abbrev pub valuesOfMatrix : Matrix → List ℕ
-valuesOfMatrix (Of m) = k_of m ∷ m.rows ∷ m.cols ∷ []
-valuesOfMatrix (Refused a) = []
+abbrev pub values_of_matrix : Matrix → List ℕ
+values_of_matrix (Of m) = k_of m ∷ m.rows ∷ m.cols ∷ []
+values_of_matrix (Refused a) = []
 
 -- the sizes fit a buffer of n bytes: no more rows than k, no more coefficients than columns, and room for k rows
-unfoldable pub sizesFit : DecoderMatrix → ℕ → Bool
-sizesFit m n = leb m.rows (k_of m) && (leb (k_of m) m.cols && leb (k_of m * m.cols) n)
+unfoldable pub sizes_fit : DecoderMatrix → ℕ → Bool
+sizes_fit m n = leb m.rows (k_of m) && (leb (k_of m) m.cols && leb (k_of m * m.cols) n)
 
 -- the rows held at the front of the buffer
-abbrev pub rowsIn : DecoderMatrix → List ℕ → List (List ℕ)
-rowsIn m elements = rows_of m.cols m.rows elements
+abbrev pub rows_in : DecoderMatrix → List ℕ → List (List ℕ)
+rows_in m elements = rows_of m.cols m.rows elements
 
 -- the same matrix with n rows
-abbrev pub withRows : DecoderMatrix → ℕ → DecoderMatrix
-withRows m n = record { num_pieces_coded_together = m.num_pieces_coded_together; rows = n; cols = m.cols }
+abbrev pub with_rows : DecoderMatrix → ℕ → DecoderMatrix
+with_rows m n = record { num_pieces_coded_together = m.num_pieces_coded_together; rows = n; cols = m.cols }
 
 -- the buffer with these rows held: then zeros up to k rows, and the bytes behind them stay
 abbrev pub holding : DecoderMatrix → List (List ℕ) → List ℕ → List ℕ

@@ -2,9 +2,9 @@
 // and its first rows · cols bytes are the rows held.
 ghost use Rattle.std.specs.Prelude.{◌≡◌, true, [], ◌≤◌, ◌<◌, length, get_or, set, replicate};
 ghost use Rattle.field.specs.FieldOf.{field_of};
-ghost use Rattle.linear.specs.Rows.{entry, allZero, clearBelow, forward, backwardAt, backward, dropEmpty};
-ghost use Rattle.decoder_matrix.specs.Matrix.{k_of, sizesFit, rowsIn, withRows, holding};
-ghost use Rattle.decoder_matrix.specs.Steps.{Applied, clearRange, Clears};
+ghost use Rattle.linear.specs.Rows.{entry, all_zero, clear_below, forward, backward_at, backward, drop_empty};
+ghost use Rattle.decoder_matrix.specs.Matrix.{k_of, sizes_fit, rows_in, with_rows, holding};
+ghost use Rattle.decoder_matrix.specs.Steps.{Applied, clear_range, Clears};
 ghost use Rattle.decoder_matrix.specs.Outcomes.{RowAdded, Swapped, Reduced};
 
 use answers::Answer;
@@ -103,7 +103,7 @@ impl DecoderMatrix {
 
     // Rule 1.
     fn clean_forward(self, f: Field, elements: &mut [u8])
-        requires { sizesFit self (length elements.old) ≡ true }
+        requires { sizes_fit self (length elements.old) ≡ true }
         ensures { Applied (forward (field_of f) self.rows) self elements.old elements.new }
     {
         let n = self.rows;
@@ -127,9 +127,9 @@ impl DecoderMatrix {
 
     // Rule 1 at i, once its pivot is in place.
     fn clear_below(self, f: Field, elements: &mut [u8], i: usize)
-        requires elements_value { sizesFit self (length elements.old) ≡ true }
-        requires i_lt_rows { (i < self.rows) × (entry (rowsIn self elements.old) i i ≡ 0 → ⊥) }
-        ensures { Applied (clearBelow (field_of f) i) self elements.old elements.new }
+        requires elements_value { sizes_fit self (length elements.old) ≡ true }
+        requires i_lt_rows { (i < self.rows) × (entry (rows_in self elements.old) i i ≡ 0 → ⊥) }
+        ensures { Applied (clear_below (field_of f) i) self elements.old elements.new }
     {
         let rows = self.rows;
         let cols = self.cols;
@@ -148,9 +148,9 @@ impl DecoderMatrix {
 
     // Adds to each row the multiple of the pivot row that clears its column. A row whose entry is 0 already is left alone.
     fn clear_rows(self, f: Field, elements: &mut [u8], c: Clearing)
-        requires elements_value { sizesFit self (length elements.old) ≡ true }
+        requires elements_value { sizes_fit self (length elements.old) ≡ true }
         requires clears { Clears (field_of f) self elements.old c }
-        ensures { Applied (clearRange (field_of f) c.from c.to c.pivot) self elements.old elements.new }
+        ensures { Applied (clear_range (field_of f) c.from c.to c.pivot) self elements.old elements.new }
     {
         let cols = self.cols;
         let i = c.pivot;
@@ -176,7 +176,7 @@ impl DecoderMatrix {
 
     // Rule 2.
     fn clean_backward(self, f: Field, elements: &mut [u8])
-        requires { sizesFit self (length elements.old) ≡ true }
+        requires { sizes_fit self (length elements.old) ≡ true }
         ensures { Applied (backward (field_of f) self.rows) self elements.old elements.new }
     {
         let mut i = self.rows;
@@ -188,9 +188,9 @@ impl DecoderMatrix {
 
     // Rule 2 at i.
     fn clear_above(self, f: Field, elements: &mut [u8], i: usize)
-        requires elements_value { sizesFit self (length elements.old) ≡ true }
+        requires elements_value { sizes_fit self (length elements.old) ≡ true }
         requires i_lt_rows { i < self.rows }
-        ensures { Applied (backwardAt (field_of f) i) self elements.old elements.new }
+        ensures { Applied (backward_at (field_of f) i) self elements.old elements.new }
     {
         let cols = self.cols;
         let a = i * cols;
@@ -210,9 +210,9 @@ impl DecoderMatrix {
 
     // Rule 3: the rows kept are moved to the front in their order, and the area behind them is cleared.
     fn remove_zero_rows(mut self, elements: &mut [u8]) -> DecoderMatrix
-        requires { sizesFit self (length elements.old) ≡ true }
-        ensures value { result ≡ withRows self (length (dropEmpty (k_of self) (rowsIn self elements.old))) }
-        ensures elements_after { elements.new ≡ holding self (dropEmpty (k_of self) (rowsIn self elements.old)) elements.old }
+        requires { sizes_fit self (length elements.old) ≡ true }
+        ensures value { result ≡ with_rows self (length (drop_empty (k_of self) (rows_in self elements.old))) }
+        ensures elements_after { elements.new ≡ holding self (drop_empty (k_of self) (rows_in self elements.old)) elements.old }
     {
         let k = self.num_pieces_coded_together;
         let n = self.rows;
@@ -236,7 +236,7 @@ impl DecoderMatrix {
 
     // rows ≤ k ≤ cols, and k rows fit into n bytes: where k · cols might be no usize, by a division, which takes longer than a product.
     fn sizes_fit(self, n: usize) -> bool
-        ensures { result ≡ sizesFit self n }
+        ensures { result ≡ sizes_fit self n }
     {
         let k = self.num_pieces_coded_together;
         let rows = self.rows;
@@ -255,7 +255,7 @@ impl DecoderMatrix {
 
     // Row `from` copied over row `to`, which is before it or the same.
     fn move_row(self, elements: &mut [u8], from: usize, to: usize)
-        requires elements_value { sizesFit self (length elements.old) ≡ true }
+        requires elements_value { sizes_fit self (length elements.old) ≡ true }
         requires to_le_from { (to ≤ from) × (from < self.rows) }
         ensures { Applied (λ rows. set rows to (get_or rows from [])) self elements.old elements.new }
     {

@@ -19,45 +19,45 @@ use Rattle.linear.specs.Pieces.{Truthful}
 use Rattle.linear.specs.Blocks.{Block, Agrees, Unique}
 use Rattle.linear.specs.Buffer.{flat, holding}
 use Rattle.linear.proofs.All.{all_head, all_tail}
-use Rattle.linear.proofs.Engine.{incomplete-other}
-use Rattle.linear.proofs.RowRules.{row-rules-engine}
+use Rattle.linear.proofs.Engine.{incomplete_other}
+use Rattle.linear.proofs.RowRules.{row_rules_engine}
 use Rattle.block.specs.Padding.{marker, Carries}
-use Rattle.block.specs.Reading.{reading, answer_of, dataLength}
-use Rattle.block.proofs.Reading.{reads-data}
+use Rattle.block.specs.Reading.{reading, answer_of, data_length}
+use Rattle.block.proofs.Reading.{reads_data}
 use Rattle.decoder.specs.declared.Decoder.{Decoder}
 use Rattle.decoder.specs.declared.Complete.TheVariants as complete
 use Rattle.decoder.specs.declared.Made.TheVariants as new
 use Rattle.decoder.specs.declared.Taken.TheVariants as piece
-use Rattle.decoder.specs.Records.{k_of, FOf, rowsIn, takenBy, takenLimit, badState}
-use Rattle.decoder.specs.Entries.{decoderOf, newRefusal, NewDecoder, takeRefusal, rowsAfter, after, taking, Decoded, completed, blockIn, recoverRefusal}
-use Rattle.decoder.specs.Calls.{recordNext, bufferNext}
+use Rattle.decoder.specs.Records.{k_of, f_of, rows_in, taken_by, taken_limit, bad_state}
+use Rattle.decoder.specs.Entries.{decoder_of, new_refusal, NewDecoder, take_refusal, rows_after, after, taking, Decoded, completed, block_in, recover_refusal}
+use Rattle.decoder.specs.Calls.{record_next, buffer_next}
 use Rattle.decoder.proofs.Sound.{shown}
-use Rattle.demands.specs.Calls.{bufferAfter, bufferFromNew}
+use Rattle.demands.specs.Calls.{buffer_after, buffer_from_new}
 use Rattle.demands.specs.Demand3.{Closed}
-use Rattle.demands.specs.History.{History, made, useful, notUseful}
+use Rattle.demands.specs.History.{History, made, useful, not_useful}
 use Rattle.demands.specs.Purpose.{heard, Another}
 use Rattle.demands.proofs.History.{Kept, kept}
-use Rattle.demands.proofs.Demand3.{closed-told, told, complete-rows, the_block, recovers, demand3}
+use Rattle.demands.proofs.Demand3.{closed_told, told, complete_rows, the_block, recovers, demand3}
 
 -- ---- the order of the pieces is nothing to the blocks that agree with them
 
 module _ {A : Type 0} {P : A → Type 0} where
-  pub all-turned : (xs ys : List A) → All P xs → All P ys → All P (reverse_aux xs ys)
-  all-turned [] ys h k = k
-  all-turned (x ∷ xs) ys h k = all-turned xs (x ∷ ys) (all_tail h) (more (all_head h) k)
+  pub all_turned : (xs ys : List A) → All P xs → All P ys → All P (reverse_aux xs ys)
+  all_turned [] ys h k = k
+  all_turned (x ∷ xs) ys h k = all_turned xs (x ∷ ys) (all_tail h) (more (all_head h) k)
 
   all_back : (xs ys : List A) → All P (reverse_aux xs ys) → All P xs × All P ys
   all_back [] ys h = (none, h)
   all_back (x ∷ xs) ys h = let k = all_back xs (x ∷ ys) h in (more (all_head k.1) k.0, all_tail k.1)
 
 module _ (𝓕 : FieldLaws) (k L : ℕ) (pieces block : List (List ℕ)) where
-  pub unique-back : Unique 𝓕 k L (reverse pieces) block → Unique 𝓕 k L pieces block
+  pub unique_back : Unique 𝓕 k L (reverse pieces) block → Unique 𝓕 k L pieces block
   unfolding Unique Agrees
-  unique-back u other o a = u other o (all-turned pieces [] a none)
+  unique_back u other o a = u other o (all_turned pieces [] a none)
 
-  pub another-back : Another 𝓕 k L (reverse pieces) block → Another 𝓕 k L pieces block
+  pub another_back : Another 𝓕 k L (reverse pieces) block → Another 𝓕 k L pieces block
   unfolding Agrees
-  another-back x = record { other = x.other; is_block = x.is_block; agrees = (all_back pieces [] x.agrees).0; differs = x.differs }
+  another_back x = record { other = x.other; is_block = x.is_block; agrees = (all_back pieces [] x.agrees).0; differs = x.differs }
 
 -- ---- some pieces of the block were fed, the last first: the decoder took all of them, or it is complete
 
@@ -72,172 +72,172 @@ module _ {𝓕 : FieldLaws} {k L : ℕ} {block fed : List (List ℕ)} {d : Decod
   abbrev it : Kept 𝓕 k L d elements s.taken
   it = kept s.history
 
-  good : badState d (length elements) ≡ false
-  unfolding badState
-  good = rw (shown d it.numbers, le-ltb (length elements) (k_of d * FOf d) it.room)
+  good : bad_state d (length elements) ≡ false
+  unfolding bad_state
+  good = rw (shown d it.numbers, le-ltb (length elements) (k_of d * f_of d) it.room)
 
-  rows-closed : eqb (rowsIn d) (k_of d) ≡ true → Closed d
-  rows-closed e = (closed-told (completed d)).1 (told s.history ∙ ap complete.Of e)
+  rows_closed : eqb (rows_in d) (k_of d) ≡ true → Closed d
+  rows_closed e = (closed_told (completed d)).1 (told s.history ∙ ap complete.Of e)
 
-  rows-open : eqb (rowsIn d) (k_of d) ≡ false → completed d ≡ complete.Of true → ⊥
-  rows-open e c =
+  rows_open : eqb (rows_in d) (k_of d) ≡ false → completed d ≡ complete.Of true → ⊥
+  rows_open e c =
       let same : complete.Of true ≡ complete.Of false = sym c ∙ told s.history ∙ ap complete.Of e in
       let never : ◌≡◌ {A = ℕ} 0 1 = cc in
       omega arith
 
   -- an open decoder took all of them
-  took-all : eqb (rowsIn d) (k_of d) ≡ false → s.taken ≡ fed
-  took-all e = go s.all
+  took_all : eqb (rows_in d) (k_of d) ≡ false → s.taken ≡ fed
+  took_all e = go s.all
     where
       go : Closed d ⊎ (s.taken ≡ fed) → s.taken ≡ fed
-      go (inl c) = absurd (rows-open e ((closed-told (completed d)).0 c))
+      go (inl c) = absurd (rows_open e ((closed_told (completed d)).0 c))
       go (inr same) = same
 
   -- ---- one piece more
 
   module _ (p : List ℕ) (size : length p ≡ k + L) where
     -- a complete decoder refuses it with 9, one that took as many as it may with 23, and any other takes it
-    complete-refuses : eqb (rowsIn d) (k_of d) ≡ true → takeRefusal d (length elements) (length p) ≡ ReceivedAllPieces
-    unfolding takeRefusal
-    complete-refuses e = rw (good, e)
+    complete_refuses : eqb (rows_in d) (k_of d) ≡ true → take_refusal d (length elements) (length p) ≡ ReceivedAllPieces
+    unfolding take_refusal
+    complete_refuses e = rw (good, e)
 
-    whole : length p ≡ FOf d
-    whole = omega (arith, it.same-k, it.same-L)
+    whole : length p ≡ f_of d
+    whole = omega (arith, it.same_k, it.same_l)
 
-    full_refuses : eqb (rowsIn d) (k_of d) ≡ false → length fed ≡ takenLimit → takeRefusal d (length elements) (length p) ≡ TooManyTaken
-    unfolding takeRefusal
+    full_refuses : eqb (rows_in d) (k_of d) ≡ false → length fed ≡ taken_limit → take_refusal d (length elements) (length p) ≡ TooManyTaken
+    unfolding take_refusal
     full_refuses e n =
-        let many : takenLimit ≤ takenBy d = omega (arith, it.taken, ap length (took-all e)) in
-        rw (good, e, eq-eqb (length p) (FOf d) whole, le-leb takenLimit (takenBy d) many)
+        let many : taken_limit ≤ taken_by d = omega (arith, it.taken, ap length (took_all e)) in
+        rw (good, e, eq-eqb (length p) (f_of d) whole, le-leb taken_limit (taken_by d) many)
 
-    takes : eqb (rowsIn d) (k_of d) ≡ false → length fed < takenLimit → takeRefusal d (length elements) (length p) ≡ Ok
-    unfolding takeRefusal
+    takes : eqb (rows_in d) (k_of d) ≡ false → length fed < taken_limit → take_refusal d (length elements) (length p) ≡ Ok
+    unfolding take_refusal
     takes e n =
-        let less : takenBy d < takenLimit = omega (arith, it.taken, ap length (took-all e)) in
-        rw (good, e, eq-eqb (length p) (FOf d) whole, lt-leb takenLimit (takenBy d) less)
+        let less : taken_by d < taken_limit = omega (arith, it.taken, ap length (took_all e)) in
+        rw (good, e, eq-eqb (length p) (f_of d) whole, lt-leb taken_limit (taken_by d) less)
 
     -- refused, it changes nothing
-    unchanged : (P : Decoder → List ℕ → Type 0) (n : ℕ) → number_of (takeRefusal d (length elements) (length p)) ≡ suc n → P d elements
-        → P (recordNext 𝓕 d elements p) (bufferNext 𝓕 d elements p)
-    unfolding recordNext bufferNext
+    unchanged : (P : Decoder → List ℕ → Type 0) (n : ℕ) → number_of (take_refusal d (length elements) (length p)) ≡ suc n → P d elements
+        → P (record_next 𝓕 d elements p) (buffer_next 𝓕 d elements p)
+    unfolding record_next buffer_next
     unchanged P n e h = rw e h
 
-    pub past : length fed ≡ takenLimit → Fed 𝓕 k L block fed (recordNext 𝓕 d elements p) (bufferNext 𝓕 d elements p)
-    past n = go (eqb (rowsIn d) (k_of d)) refl
+    pub past : length fed ≡ taken_limit → Fed 𝓕 k L block fed (record_next 𝓕 d elements p) (buffer_next 𝓕 d elements p)
+    past n = go (eqb (rows_in d) (k_of d)) refl
       where
-        go : (u : Bool) → eqb (rowsIn d) (k_of d) ≡ u → Fed 𝓕 k L block fed (recordNext 𝓕 d elements p) (bufferNext 𝓕 d elements p)
-        go true e = unchanged (Fed 𝓕 k L block fed) 8 (ap number_of (complete-refuses e)) s
+        go : (u : Bool) → eqb (rows_in d) (k_of d) ≡ u → Fed 𝓕 k L block fed (record_next 𝓕 d elements p) (buffer_next 𝓕 d elements p)
+        go true e = unchanged (Fed 𝓕 k L block fed) 8 (ap number_of (complete_refuses e)) s
         go false e = unchanged (Fed 𝓕 k L block fed) 22 (ap number_of (full_refuses e n)) s
 
     module _ (b : Bytes p) (t : Truthful 𝓕 k L block p) where
-      still-closed : Closed d → Fed 𝓕 k L block (p ∷ fed) d elements
+      still_closed : Closed d → Fed 𝓕 k L block (p ∷ fed) d elements
       unfolding Agrees
-      still-closed c = record { taken = s.taken; history = s.history; agrees = s.agrees; within = λ other a. s.within other (all_tail a); all = inl c }
+      still_closed c = record { taken = s.taken; history = s.history; agrees = s.agrees; within = λ other a. s.within other (all_tail a); all = inl c }
 
-      grows : takeRefusal d (length elements) (length p) ≡ Ok → s.taken ≡ fed
-          → Fed 𝓕 k L block (p ∷ fed) (recordNext 𝓕 d elements p) (bufferNext 𝓕 d elements p)
-      unfolding recordNext bufferNext taking Agrees
+      grows : take_refusal d (length elements) (length p) ≡ Ok → s.taken ≡ fed
+          → Fed 𝓕 k L block (p ∷ fed) (record_next 𝓕 d elements p) (buffer_next 𝓕 d elements p)
+      unfolding record_next buffer_next taking Agrees
       grows e same =
-          let x : recordNext 𝓕 d elements p ≡ after 𝓕 d elements p = rw e in
-          let y : bufferNext 𝓕 d elements p ≡ holding (k_of d) (FOf d) (rowsAfter 𝓕 d elements p) elements = rw e in
+          let x : record_next 𝓕 d elements p ≡ after 𝓕 d elements p = rw e in
+          let y : buffer_next 𝓕 d elements p ≡ holding (k_of d) (f_of d) (rows_after 𝓕 d elements p) elements = rw e in
           rw (x, y)
           (record {
             taken = p ∷ s.taken;
-            history = called (eqb (length (rowsAfter 𝓕 d elements p)) (rowsIn d)) refl;
+            history = called (eqb (length (rows_after 𝓕 d elements p)) (rows_in d)) refl;
             agrees = more t s.agrees;
             within = λ other a. more (all_head a) (s.within other (all_tail a));
             all = inr (ap (λ (l : List (List ℕ)). p ∷ l) same);
           })
         where
-          called : (u : Bool) → eqb (length (rowsAfter 𝓕 d elements p)) (rowsIn d) ≡ u
-              → History 𝓕 k L (after 𝓕 d elements p) (holding (k_of d) (FOf d) (rowsAfter 𝓕 d elements p) elements) (p ∷ s.taken)
+          called : (u : Bool) → eqb (length (rows_after 𝓕 d elements p)) (rows_in d) ≡ u
+              → History 𝓕 k L (after 𝓕 d elements p) (holding (k_of d) (f_of d) (rows_after 𝓕 d elements p) elements) (p ∷ s.taken)
           called true q =
-              let c : Decoded 𝓕 d elements p (piece.NotUseful (after 𝓕 d elements p)) (holding (k_of d) (FOf d) (rowsAfter 𝓕 d elements p) elements) = record { result = rw (e, q); left = rw e } in
-              notUseful s.history b c
+              let c : Decoded 𝓕 d elements p (piece.NotUseful (after 𝓕 d elements p)) (holding (k_of d) (f_of d) (rows_after 𝓕 d elements p) elements) = record { result = rw (e, q); left = rw e } in
+              not_useful s.history b c
           called false q =
-              let c : Decoded 𝓕 d elements p (piece.Useful (after 𝓕 d elements p)) (holding (k_of d) (FOf d) (rowsAfter 𝓕 d elements p) elements) = record { result = rw (e, q); left = rw e } in
+              let c : Decoded 𝓕 d elements p (piece.Useful (after 𝓕 d elements p)) (holding (k_of d) (f_of d) (rows_after 𝓕 d elements p) elements) = record { result = rw (e, q); left = rw e } in
               useful s.history b c
 
-      pub feed : length fed < takenLimit → Fed 𝓕 k L block (p ∷ fed) (recordNext 𝓕 d elements p) (bufferNext 𝓕 d elements p)
-      feed n = go (eqb (rowsIn d) (k_of d)) refl
+      pub feed : length fed < taken_limit → Fed 𝓕 k L block (p ∷ fed) (record_next 𝓕 d elements p) (buffer_next 𝓕 d elements p)
+      feed n = go (eqb (rows_in d) (k_of d)) refl
         where
-          go : (u : Bool) → eqb (rowsIn d) (k_of d) ≡ u → Fed 𝓕 k L block (p ∷ fed) (recordNext 𝓕 d elements p) (bufferNext 𝓕 d elements p)
-          go true e = unchanged (Fed 𝓕 k L block (p ∷ fed)) 8 (ap number_of (complete-refuses e)) (still-closed (rows-closed e))
-          go false e = grows (takes e n) (took-all e)
+          go : (u : Bool) → eqb (rows_in d) (k_of d) ≡ u → Fed 𝓕 k L block (p ∷ fed) (record_next 𝓕 d elements p) (buffer_next 𝓕 d elements p)
+          go true e = unchanged (Fed 𝓕 k L block (p ∷ fed)) 8 (ap number_of (complete_refuses e)) (still_closed (rows_closed e))
+          go false e = grows (takes e n) (took_all e)
 
   -- ---- recovery, given the room: the data where no other block is left, and else 10
 
-  open-answer : eqb (rowsIn d) (k_of d) ≡ false → (room : ℕ) → recoverRefusal marker d elements room ≡ NotAllPiecesReceivedYet
-  unfolding recoverRefusal
-  open-answer e room = rw (good, e)
+  open_answer : eqb (rows_in d) (k_of d) ≡ false → (room : ℕ) → recover_refusal marker d elements room ≡ NotAllPiecesReceivedYet
+  unfolding recover_refusal
+  open_answer e room = rw (good, e)
 
   module _ (b : Block k L block) where
-    closed-unique : Closed d → Unique 𝓕 k L fed block
+    closed_unique : Closed d → Unique 𝓕 k L fed block
     unfolding Unique
-    closed-unique c other o a = (demand3 s.history marker block b s.agrees).closes.0 c other o (s.within other a)
+    closed_unique c other o a = (demand3 s.history marker block b s.agrees).closes.0 c other o (s.within other a)
 
-    open-another : eqb (rowsIn d) (k_of d) ≡ false → Another 𝓕 k L fed block
-    open-another e =
-        let long : 0 < L = subst (λ (n : ℕ). 0 < n) it.same-L (pos_of_ne-zero it.numbers.some_bytes) in
-        let (other, o, a, n) = incomplete-other 𝓕 (row-rules-engine 𝓕 k L) it.held block b s.agrees long (λ l. rows-open e ((complete-rows s.history).1 l)) in
-        subst (λ (l : List (List ℕ)). Another 𝓕 k L l block) (took-all e) (record { other = other; is_block = o; agrees = a; differs = n })
+    open_another : eqb (rows_in d) (k_of d) ≡ false → Another 𝓕 k L fed block
+    open_another e =
+        let long : 0 < L = subst (λ (n : ℕ). 0 < n) it.same_l (pos_of_ne-zero it.numbers.some_bytes) in
+        let (other, o, a, n) = incomplete_other 𝓕 (row_rules_engine 𝓕 k L) it.held block b s.agrees long (λ l. rows_open e ((complete_rows s.history).1 l)) in
+        subst (λ (l : List (List ℕ)). Another 𝓕 k L l block) (took_all e) (record { other = other; is_block = o; agrees = a; differs = n })
 
     pub recovery : {bytes : List ℕ} → Carries marker (flat block) bytes → (room : ℕ) → k * L ≤ room
-        → ((recoverRefusal marker d elements room ≡ Ok) × (take (dataLength (reading marker (blockIn d elements))) (blockIn d elements) ≡ bytes) × Unique 𝓕 k L fed block)
-        ⊎ ((recoverRefusal marker d elements room ≡ NotAllPiecesReceivedYet) × Another 𝓕 k L fed block)
-    unfolding answer_of dataLength
-    recovery {bytes} y room w = go (eqb (rowsIn d) (k_of d)) refl
+        → ((recover_refusal marker d elements room ≡ Ok) × (take (data_length (reading marker (block_in d elements))) (block_in d elements) ≡ bytes) × Unique 𝓕 k L fed block)
+        ⊎ ((recover_refusal marker d elements room ≡ NotAllPiecesReceivedYet) × Another 𝓕 k L fed block)
+    unfolding answer_of data_length
+    recovery {bytes} y room w = go (eqb (rows_in d) (k_of d)) refl
       where
-        go : (u : Bool) → eqb (rowsIn d) (k_of d) ≡ u
-            → ((recoverRefusal marker d elements room ≡ Ok) × (take (dataLength (reading marker (blockIn d elements))) (blockIn d elements) ≡ bytes) × Unique 𝓕 k L fed block)
-            ⊎ ((recoverRefusal marker d elements room ≡ NotAllPiecesReceivedYet) × Another 𝓕 k L fed block)
+        go : (u : Bool) → eqb (rows_in d) (k_of d) ≡ u
+            → ((recover_refusal marker d elements room ≡ Ok) × (take (data_length (reading marker (block_in d elements))) (block_in d elements) ≡ bytes) × Unique 𝓕 k L fed block)
+            ⊎ ((recover_refusal marker d elements room ≡ NotAllPiecesReceivedYet) × Another 𝓕 k L fed block)
         go true e =
             let c : completed d ≡ complete.Of true = told s.history ∙ ap complete.Of e in
-            let (reads, front) = (reads-data marker (flat block) bytes).0 y in
-            let same : blockIn d elements ≡ flat block = the_block s.history block b s.agrees c in
+            let (reads, front) = (reads_data marker (flat block) bytes).0 y in
+            let same : block_in d elements ≡ flat block = the_block s.history block b s.agrees c in
             inl (
               recovers s.history block b s.agrees c marker room w ∙ ap answer_of reads,
-              (λ i. take (dataLength (reading marker (same i))) (same i)) ∙ ap (λ x. take (dataLength x) (flat block)) reads ∙ front,
-              closed-unique (rows-closed e),
+              (λ i. take (data_length (reading marker (same i))) (same i)) ∙ ap (λ x. take (data_length x) (flat block)) reads ∙ front,
+              closed_unique (rows_closed e),
             )
-        go false e = inr (open-answer e room, open-another e)
+        go false e = inr (open_answer e room, open_another e)
 
 -- ---- all the pieces, from the first on
 
-unfoldable pub recordAfter : FieldLaws → Decoder → List ℕ → List (List ℕ) → Decoder
-recordAfter 𝓕 d elements [] = d
-recordAfter 𝓕 d elements (full ∷ later) = recordAfter 𝓕 (recordNext 𝓕 d elements full) (bufferNext 𝓕 d elements full) later
+unfoldable pub record_after : FieldLaws → Decoder → List ℕ → List (List ℕ) → Decoder
+record_after 𝓕 d elements [] = d
+record_after 𝓕 d elements (full ∷ later) = record_after 𝓕 (record_next 𝓕 d elements full) (buffer_next 𝓕 d elements full) later
 
 module _ (𝓕 : FieldLaws) (k L : ℕ) (block : List (List ℕ)) where
-  fresh : newRefusal L k (k * (k + L)) ≡ Ok → Fed 𝓕 k L block [] (decoderOf k L 0 0) (replicate (k * (k + L)) 0)
+  fresh : new_refusal L k (k * (k + L)) ≡ Ok → Fed 𝓕 k L block [] (decoder_of k L 0 0) (replicate (k * (k + L)) 0)
   unfolding Agrees
   fresh e =
       let size : length (replicate {A = ℕ} (k * (k + L)) 0) ≡ k * (k + L) = length-replicate (k * (k + L)) 0 in
-      let ok : newRefusal L k (length (replicate {A = ℕ} (k * (k + L)) 0)) ≡ Ok = ap (newRefusal L k) size ∙ e in
-      let nothing-behind : drop (k * (k + L)) (replicate {A = ℕ} (k * (k + L)) 0) ≡ [] = drop_of_length-le (replicate (k * (k + L)) 0) {i = k * (k + L)} (omega arith) in
-      let new-one : NewDecoder L k (replicate (k * (k + L)) 0) (new.Of (decoderOf k L 0 0)) (replicate (k * (k + L)) 0) =
-      record { result = rw ok; left = rw (ok, nothing-behind, append-nil) } in
-      record { taken = []; history = made new-one; agrees = none; within = λ other a. none; all = inr refl }
+      let ok : new_refusal L k (length (replicate {A = ℕ} (k * (k + L)) 0)) ≡ Ok = ap (new_refusal L k) size ∙ e in
+      let nothing_behind : drop (k * (k + L)) (replicate {A = ℕ} (k * (k + L)) 0) ≡ [] = drop_of_length-le (replicate (k * (k + L)) 0) {i = k * (k + L)} (omega arith) in
+      let new_one : NewDecoder L k (replicate (k * (k + L)) 0) (new.Of (decoder_of k L 0 0)) (replicate (k * (k + L)) 0) =
+      record { result = rw ok; left = rw (ok, nothing_behind, append-nil) } in
+      record { taken = []; history = made new_one; agrees = none; within = λ other a. none; all = inr refl }
 
   -- with no piece there is nothing to recover
-  pub nothing_yet : newRefusal L k (k * (k + L)) ≡ Ok → (room : ℕ)
-      → recoverRefusal marker (decoderOf k L 0 0) (replicate (k * (k + L)) 0) room ≡ NotAllPiecesReceivedYet
-  nothing_yet e room = let s = fresh e in open-answer s (ne_eqb 0 k (λ z. (it s).numbers.some-pieces (sym z))) room
+  pub nothing_yet : new_refusal L k (k * (k + L)) ≡ Ok → (room : ℕ)
+      → recover_refusal marker (decoder_of k L 0 0) (replicate (k * (k + L)) 0) room ≡ NotAllPiecesReceivedYet
+  nothing_yet e room = let s = fresh e in open_answer s (ne_eqb 0 k (λ z. (it s).numbers.some_pieces (sym z))) room
 
   -- n more are heard
-  feeds : (n : ℕ) (ps fed : List (List ℕ)) (d : Decoder) (elements : List ℕ) → Fed 𝓕 k L block fed d elements → length fed + n ≡ takenLimit
+  feeds : (n : ℕ) (ps fed : List (List ℕ)) (d : Decoder) (elements : List ℕ) → Fed 𝓕 k L block fed d elements → length fed + n ≡ taken_limit
       → All (λ p. length p ≡ k + L) ps → All Bytes ps → Agrees 𝓕 k L (take n ps) block
-      → Fed 𝓕 k L block (reverse_aux (take n ps) fed) (recordAfter 𝓕 d elements ps) (bufferAfter 𝓕 d elements ps)
-  unfolding recordAfter bufferAfter Agrees
+      → Fed 𝓕 k L block (reverse_aux (take n ps) fed) (record_after 𝓕 d elements ps) (buffer_after 𝓕 d elements ps)
+  unfolding record_after buffer_after Agrees
   feeds zero [] fed d elements s e z b t = s
   feeds zero (p ∷ ps) fed d elements s e z b t =
-      feeds zero ps fed (recordNext 𝓕 d elements p) (bufferNext 𝓕 d elements p) (past s p (all_head z) (omega arith)) e (all_tail z) (all_tail b) t
+      feeds zero ps fed (record_next 𝓕 d elements p) (buffer_next 𝓕 d elements p) (past s p (all_head z) (omega arith)) e (all_tail z) (all_tail b) t
   feeds (suc n) [] fed d elements s e z b t = s
   feeds (suc n) (p ∷ ps) fed d elements s e z b t =
-      feeds n ps (p ∷ fed) (recordNext 𝓕 d elements p) (bufferNext 𝓕 d elements p) (feed s p (all_head z) (all_head b) (all_head t) (omega arith)) (omega arith) (all_tail z) (all_tail b) (all_tail t)
+      feeds n ps (p ∷ fed) (record_next 𝓕 d elements p) (buffer_next 𝓕 d elements p) (feed s p (all_head z) (all_head b) (all_head t) (omega arith)) (omega arith) (all_tail z) (all_tail b) (all_tail t)
 
-  pub fed-from-new : newRefusal L k (k * (k + L)) ≡ Ok → (pieces : List (List ℕ)) → All (λ p. length p ≡ k + L) pieces → All Bytes pieces
+  pub fed_from_new : new_refusal L k (k * (k + L)) ≡ Ok → (pieces : List (List ℕ)) → All (λ p. length p ≡ k + L) pieces → All Bytes pieces
       → Agrees 𝓕 k L (heard pieces) block
-      → Fed 𝓕 k L block (reverse (heard pieces)) (recordAfter 𝓕 (decoderOf k L 0 0) (replicate (k * (k + L)) 0) pieces) (bufferFromNew 𝓕 k L pieces)
-  unfolding bufferFromNew
-  fed-from-new e pieces z b t = feeds takenLimit pieces [] (decoderOf k L 0 0) (replicate (k * (k + L)) 0) (fresh e) (omega arith) z b t
+      → Fed 𝓕 k L block (reverse (heard pieces)) (record_after 𝓕 (decoder_of k L 0 0) (replicate (k * (k + L)) 0) pieces) (buffer_from_new 𝓕 k L pieces)
+  unfolding buffer_from_new
+  fed_from_new e pieces z b t = feeds taken_limit pieces [] (decoder_of k L 0 0) (replicate (k * (k + L)) 0) (fresh e) (omega arith) z b t

@@ -8,20 +8,20 @@ use lib.Seq.{take-append_seam}
 use Rattle.galois.specs.FieldLaws.{FieldLaws}
 use Rattle.stream.specs.declared.Geometry.{Geometry}
 use Rattle.joiner.specs.Machine.{over}
-use Rattle.joiner.specs.Runs.{Close, closeOf}
+use Rattle.joiner.specs.Runs.{Close, close_of}
 use Rattle.joiner.proofs.Closes.{ends_as}
 use Rattle.demands.specs.Purpose.{sent, Purpose}
 use Rattle.demands.specs.HandsOver.{EveryRun, HandsOver}
 
-ends_so : (𝓕 : FieldLaws) (input : List ℕ) (c : Close) → closeOf 𝓕 input ≡ c
+ends_so : (𝓕 : FieldLaws) (input : List ℕ) (c : Close) → close_of 𝓕 input ≡ c
     → EveryRun 𝓕 input (λ area last block. (last.ending ≡ c.ending) × (block ≡ over c.found area))
 ends_so 𝓕 input c e small n area text last block run =
     let (ending, left) = ends_as 𝓕 small run in
     (ending ∙ ap (λ (c : Close). c.ending) e, left ∙ ap (λ (c : Close). over c.found area) e)
 
-pub hands-over : (𝓕 : FieldLaws) (g : Geometry) (bytes : List ℕ) (pieces counted : List (List ℕ))
+pub hands_over : (𝓕 : FieldLaws) (g : Geometry) (bytes : List ℕ) (pieces counted : List (List ℕ))
     → Purpose 𝓕 g bytes pieces counted → HandsOver 𝓕 g bytes pieces counted
-hands-over 𝓕 g bytes pieces counted p =
+hands_over 𝓕 g bytes pieces counted p =
     record {
       rebuilt = λ u behind small n area text last block run.
           let (ending, left) = ends_so 𝓕 (sent g pieces behind) _ (p.rebuilt u behind).1 small n area text last block run in

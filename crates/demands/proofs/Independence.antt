@@ -7,41 +7,41 @@ use lib.ListN.{length, take}
 use Rattle.answers.specs.Number.{number_of}
 use Rattle.answers.specs.declared.Answer.{Answer}
 use Rattle.answers.specs.declared.Answer.TheVariants.{Ok}
-use Rattle.answers.proofs.Numbers.{numbers-tell}
+use Rattle.answers.proofs.Numbers.{numbers_tell}
 use Rattle.galois.specs.FieldLaws.{FieldLaws}
-use Rattle.linear.specs.Choice.{ifZero}
-use Rattle.linear.proofs.Buffer.{length-rowsOf}
+use Rattle.linear.specs.Choice.{if_zero}
+use Rattle.linear.proofs.Buffer.{length_rows_of}
 use Rattle.linear.proofs.Independence.{count_of}
-use Rattle.block.specs.Refusal.{ifOk}
+use Rattle.block.specs.Refusal.{if_ok}
 use Rattle.decoder.specs.declared.Decoder.{Decoder}
 use Rattle.decoder.specs.declared.Taken.{Taken}
 use Rattle.decoder.specs.declared.Taken.TheVariants as piece
-use Rattle.decoder.specs.Records.{k_of, FOf, rowsIn, held_rows}
-use Rattle.decoder.specs.Entries.{takeRefusal, rowsAfter, after, taking, Decoded}
+use Rattle.decoder.specs.Records.{k_of, f_of, rows_in, held_rows}
+use Rattle.decoder.specs.Entries.{take_refusal, rows_after, after, taking, Decoded}
 use Rattle.decoder.proofs.Accepted.{Accepted, accepted}
 
 module _ (𝓕 : FieldLaws) (d : Decoder) (elements elements' full full' : List ℕ)
     (same_rows : map (take (k_of d)) (held_rows d elements) ≡ map (take (k_of d)) (held_rows d elements'))
-    (same-vector : take (k_of d) full ≡ take (k_of d) full') where
-  same_count : rowsIn d < k_of d → length (rowsAfter 𝓕 d elements full) ≡ length (rowsAfter 𝓕 d elements' full')
-  unfolding rowsAfter held_rows
+    (same_vector : take (k_of d) full ≡ take (k_of d) full') where
+  same_count : rows_in d < k_of d → length (rows_after 𝓕 d elements full) ≡ length (rows_after 𝓕 d elements' full')
+  unfolding rows_after held_rows
   same_count h =
       count_of 𝓕 (k_of d) (held_rows d elements) (held_rows d elements') full full'
-      (rw (length-rowsOf (FOf d) (rowsIn d) elements) h) same_rows same-vector
+      (rw (length_rows_of (f_of d) (rows_in d) elements) h) same_rows same_vector
 
-  same-taking : rowsIn d < k_of d → taking 𝓕 d elements full ≡ taking 𝓕 d elements' full'
+  same_taking : rows_in d < k_of d → taking 𝓕 d elements full ≡ taking 𝓕 d elements' full'
   unfolding taking after
-  same-taking h = rw (same_count h)
+  same_taking h = rw (same_count h)
 
   -- the same answer, with the same record in it
   pub independent : length elements ≡ length elements' → length full ≡ length full' → {r r' : Taken} {last last' : List ℕ}
       → Decoded 𝓕 d elements full r last → Decoded 𝓕 d elements' full' r' last' → r ≡ r'
   independent l m {r} {r'} h h' =
-      let same : takeRefusal d (length elements) (length full) ≡ takeRefusal d (length elements') (length full') = ap₂ (takeRefusal d) l m in
-      h.result ∙ go (takeRefusal d (length elements) (length full)) (number_of (takeRefusal d (length elements) (length full))) refl (λ z. accepted d (length elements) (length full) ((numbers-tell _ Ok).1 z))
-      ∙ sym (h'.result ∙ ap (λ (a : Answer). ifOk a (taking 𝓕 d elements' full') (piece.Refused a)) (sym same))
+      let same : take_refusal d (length elements) (length full) ≡ take_refusal d (length elements') (length full') = ap₂ (take_refusal d) l m in
+      h.result ∙ go (take_refusal d (length elements) (length full)) (number_of (take_refusal d (length elements) (length full))) refl (λ z. accepted d (length elements) (length full) ((numbers_tell _ Ok).1 z))
+      ∙ sym (h'.result ∙ ap (λ (a : Answer). if_ok a (taking 𝓕 d elements' full') (piece.Refused a)) (sym same))
     where
       go : (a : Answer) (n : ℕ) → number_of a ≡ n → (number_of a ≡ 0 → Accepted d (length elements) (length full))
-          → ifZero n (taking 𝓕 d elements full) (piece.Refused a) ≡ ifZero n (taking 𝓕 d elements' full') (piece.Refused a)
-      go a zero e o = same-taking (o e).missing
+          → if_zero n (taking 𝓕 d elements full) (piece.Refused a) ≡ if_zero n (taking 𝓕 d elements' full') (piece.Refused a)
+      go a zero e o = same_taking (o e).missing
       go a (suc n) e o = refl

@@ -12,43 +12,43 @@ use lib.ListN.{length, drop, replicate}
 use Rattle.answers.specs.Number.{number_of}
 use Rattle.answers.specs.declared.Answer.{Answer}
 use Rattle.answers.specs.declared.Answer.TheVariants.{Ok}
-use Rattle.answers.proofs.Numbers.{numbers-tell}
+use Rattle.answers.proofs.Numbers.{numbers_tell}
 use Rattle.galois.specs.FieldLaws.{FieldLaws}
-use Rattle.linear.specs.Choice.{pick, ifZero}
+use Rattle.linear.specs.Choice.{pick, if_zero}
 use Rattle.linear.specs.Buffer.{holding}
 use Rattle.decoder.specs.declared.Decoder.{Decoder}
 use Rattle.decoder.specs.declared.Made.{Made}
 use Rattle.decoder.specs.declared.Made.TheVariants as new
 use Rattle.decoder.specs.declared.Taken.{Taken}
 use Rattle.decoder.specs.declared.Taken.TheVariants as piece
-use Rattle.decoder.specs.Records.{k_of, FOf, rowsIn}
-use Rattle.decoder.specs.Entries.{decoderOf, newRefusal, NewDecoder, takeRefusal, rowsAfter, after, taking, Decoded}
+use Rattle.decoder.specs.Records.{k_of, f_of, rows_in}
+use Rattle.decoder.specs.Entries.{decoder_of, new_refusal, NewDecoder, take_refusal, rows_after, after, taking, Decoded}
 
 pub made_of : (L k : ℕ) (buffer elements : List ℕ) (d : Decoder) → NewDecoder L k buffer (new.Of d) elements
-    → (d ≡ decoderOf k L 0 0) × (elements ≡ replicate (k * (k + L)) 0 ++ drop (k * (k + L)) buffer)
-made_of L k buffer elements d n = go (newRefusal L k (length buffer)) (number_of (newRefusal L k (length buffer))) n.result n.left
+    → (d ≡ decoder_of k L 0 0) × (elements ≡ replicate (k * (k + L)) 0 ++ drop (k * (k + L)) buffer)
+made_of L k buffer elements d n = go (new_refusal L k (length buffer)) (number_of (new_refusal L k (length buffer))) n.result n.left
   where
-    go : (a : Answer) (m : ℕ) → new.Of d ≡ ifZero m (new.Of (decoderOf k L 0 0)) (new.Refused a)
-        → elements ≡ ifZero m (replicate (k * (k + L)) 0 ++ drop (k * (k + L)) buffer) buffer
-        → (d ≡ decoderOf k L 0 0) × (elements ≡ replicate (k * (k + L)) 0 ++ drop (k * (k + L)) buffer)
+    go : (a : Answer) (m : ℕ) → new.Of d ≡ if_zero m (new.Of (decoder_of k L 0 0)) (new.Refused a)
+        → elements ≡ if_zero m (replicate (k * (k + L)) 0 ++ drop (k * (k + L)) buffer) buffer
+        → (d ≡ decoder_of k L 0 0) × (elements ≡ replicate (k * (k + L)) 0 ++ drop (k * (k + L)) buffer)
     go a zero p q = ((cc), q)
     go a (suc m) p q = let z : ◌≡◌ {A = ℕ} 0 1 = cc in absurd (omega arith)
 
 -- the piece was taken
 pub record Took (𝓕 : FieldLaws) (d : Decoder) (elements full : List ℕ) (d' : Decoder) (elements' : List ℕ) : Type 0 where
-  pub let-in : takeRefusal d (length elements) (length full) ≡ Ok
+  pub let_in : take_refusal d (length elements) (length full) ≡ Ok
   pub record_is : d' ≡ after 𝓕 d elements full
-  pub buffer-is : elements' ≡ holding (k_of d) (FOf d) (rowsAfter 𝓕 d elements full) elements
+  pub buffer_is : elements' ≡ holding (k_of d) (f_of d) (rows_after 𝓕 d elements full) elements
 
 module _ (𝓕 : FieldLaws) (d : Decoder) (elements full : List ℕ) (r : Taken) (elements' : List ℕ) (h : Decoded 𝓕 d elements full r elements') where
   abbrev refusal : Answer
-  refusal = takeRefusal d (length elements) (length full)
+  refusal = take_refusal d (length elements) (length full)
 
   abbrev next : Decoder
   next = after 𝓕 d elements full
 
   abbrev rows_left : List ℕ
-  rows_left = holding (k_of d) (FOf d) (rowsAfter 𝓕 d elements full) elements
+  rows_left = holding (k_of d) (f_of d) (rows_after 𝓕 d elements full) elements
 
   pub took : (d' : Decoder) → (r ≡ piece.Useful d') ⊎ (r ≡ piece.NotUseful d') → Took 𝓕 d elements full d' elements'
   unfolding taking
@@ -60,9 +60,9 @@ module _ (𝓕 : FieldLaws) (d : Decoder) (elements full : List ℕ) (r : Taken)
       which false p (inl u) = cc
       which false p (inr u) = cc
 
-      go : (m : ℕ) → number_of refusal ≡ m → r ≡ ifZero m (taking 𝓕 d elements full) (piece.Refused refusal) → elements' ≡ ifZero m rows_left elements
+      go : (m : ℕ) → number_of refusal ≡ m → r ≡ if_zero m (taking 𝓕 d elements full) (piece.Refused refusal) → elements' ≡ if_zero m rows_left elements
           → (r ≡ piece.Useful d') ⊎ (r ≡ piece.NotUseful d') → Took 𝓕 d elements full d' elements'
-      go zero e p q w = record { let-in = (numbers-tell refusal Ok).1 e; record_is = which (eqb (length (rowsAfter 𝓕 d elements full)) (rowsIn d)) p w; buffer-is = q }
+      go zero e p q w = record { let_in = (numbers_tell refusal Ok).1 e; record_is = which (eqb (length (rows_after 𝓕 d elements full)) (rows_in d)) p w; buffer_is = q }
       go (suc m) e p q (inl u) = let z : ◌≡◌ {A = ℕ} 0 1 = cc in absurd (omega arith)
       go (suc m) e p q (inr u) = let z : ◌≡◌ {A = ℕ} 0 1 = cc in absurd (omega arith)
 
@@ -74,6 +74,6 @@ module _ (𝓕 : FieldLaws) (d : Decoder) (elements full : List ℕ) (r : Taken)
       never true p = let z : ◌≡◌ {A = ℕ} 0 1 = cc in omega arith
       never false p = let z : ◌≡◌ {A = ℕ} 0 1 = cc in omega arith
 
-      go : (m : ℕ) → r ≡ ifZero m (taking 𝓕 d elements full) (piece.Refused refusal) → elements' ≡ ifZero m rows_left elements → elements' ≡ elements
-      go zero p q = absurd (never (eqb (length (rowsAfter 𝓕 d elements full)) (rowsIn d)) p)
+      go : (m : ℕ) → r ≡ if_zero m (taking 𝓕 d elements full) (piece.Refused refusal) → elements' ≡ if_zero m rows_left elements → elements' ≡ elements
+      go zero p q = absurd (never (eqb (length (rows_after 𝓕 d elements full)) (rows_in d)) p)
       go (suc m) p q = q

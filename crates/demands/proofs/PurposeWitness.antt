@@ -12,25 +12,25 @@ use Rattle.linear.specs.All.{All, none, more, Bytes}
 use Rattle.linear.specs.Pieces.{column, dot, Truthful}
 use Rattle.linear.specs.Blocks.{Agrees, Unique}
 use Rattle.linear.specs.Buffer.{rows_of}
-use Rattle.linear.proofs.All.{all_head, all_append, all-append-left, all-append-right}
+use Rattle.linear.proofs.All.{all_head, all_append, all_append_left, all_append_right}
 use Rattle.block.specs.Padding.{marker, filled}
 use Rattle.stream.specs.declared.Geometry.TheVariants.{Of3By2}
-use Rattle.stream.specs.Streams.{largest, recordsOf}
-use Rattle.decoder.specs.Records.{takenLimit}
-use Rattle.listing.specs.Listing.{blockRoom}
+use Rattle.stream.specs.Streams.{largest, records_of}
+use Rattle.decoder.specs.Records.{taken_limit}
+use Rattle.listing.specs.Listing.{block_room}
 use Rattle.joiner.proofs.Prints.{runs}
 use Rattle.demands.specs.Purpose.{block_of, heard, Sends, sent, Another}
-use Rattle.demands.specs.PurposeWitness.{theData, afterMany, FiveJoined, PurposeWitness}
-use Rattle.demands.specs.Witness.{four, five, theBlock}
+use Rattle.demands.specs.PurposeWitness.{the_data, after_many, FiveJoined, PurposeWitness}
+use Rattle.demands.specs.Witness.{four, five, the_block}
 use Rattle.demands.proofs.Demand3.{demand3}
-use Rattle.demands.proofs.Fed.{all-turned, unique-back}
+use Rattle.demands.proofs.Fed.{all_turned, unique_back}
 use Rattle.demands.proofs.Purpose.{purpose}
-use Rattle.demands.proofs.HandsOver.{hands-over}
+use Rattle.demands.proofs.HandsOver.{hands_over}
 use Rattle.demands.proofs.Witness.{bytes_of, truthful, witness}
 
-padded-data : block_of Of3By2 theData ≡ theBlock
+padded_data : block_of Of3By2 the_data ≡ the_block
 unfolding rows_of filled
-padded-data = refl
+padded_data = refl
 
 abbrev first : List ℕ
 first = 0 ∷ 0 ∷ 1 ∷ 0x81 ∷ 0 ∷ []
@@ -46,35 +46,35 @@ sizes = more refl (more refl (more refl (more refl (more refl none))))
 piece_bytes : All Bytes (reverse five)
 piece_bytes = more (bytes_of first tt) (more (bytes_of first tt) (more (bytes_of first tt) (more (bytes_of (0 ∷ 1 ∷ 0 ∷ 0x63 ∷ 0x64 ∷ []) tt) (more (bytes_of fifth tt) none))))
 
-agrees : Agrees fips 3 2 (reverse five) theBlock
+agrees : Agrees fips 3 2 (reverse five) the_block
 unfolding Agrees
-agrees = all-turned five [] witness.agrees none
+agrees = all_turned five [] witness.agrees none
 
-sends : (pieces counted : List (List ℕ)) → All (λ p. length p ≡ 5) pieces → All Bytes pieces → Agrees fips 3 2 counted theBlock → Sends fips Of3By2 theData pieces counted
+sends : (pieces counted : List (List ℕ)) → All (λ p. length p ≡ 5) pieces → All Bytes pieces → Agrees fips 3 2 counted the_block → Sends fips Of3By2 the_data pieces counted
 sends pieces counted z b a =
-    record { some = omega arith; fits = omega arith; data-bytes = bytes_of theData tt; sizes = z; piece_bytes = b; truthful = rw padded-data a }
+    record { some = omega arith; fits = omega arith; data_bytes = bytes_of the_data tt; sizes = z; piece_bytes = b; truthful = rw padded_data a }
 
-no_other : Unique fips 3 2 (reverse five) theBlock
+no_other : Unique fips 3 2 (reverse five) the_block
 no_other =
-    unique-back fips 3 2 (reverse five) theBlock
-    ((demand3 witness.after-five.history marker theBlock witness.block witness.agrees).closes.0 witness.closed)
+    unique_back fips 3 2 (reverse five) the_block
+    ((demand3 witness.after_five.history marker the_block witness.block witness.agrees).closes.0 witness.closed)
 
 -- ---- the first piece of the block is left open by the first four
 
-abbrev otherBlock : List (List ℕ)
-otherBlock = (0 ∷ 0 ∷ []) ∷ (0x63 ∷ 0x64 ∷ []) ∷ (0x81 ∷ 0 ∷ []) ∷ []
+abbrev other_block : List (List ℕ)
+other_block = (0 ∷ 0 ∷ []) ∷ (0x63 ∷ 0x64 ∷ []) ∷ (0x81 ∷ 0 ∷ []) ∷ []
 
-first-agrees : Truthful fips 3 2 otherBlock first
+first_agrees : Truthful fips 3 2 other_block first
 unfolding dot column xtime times mul
-first-agrees = truthful otherBlock first refl refl
+first_agrees = truthful other_block first refl refl
 
-four-agree : Agrees fips 3 2 (reverse four) otherBlock
+four_agree : Agrees fips 3 2 (reverse four) other_block
 unfolding Agrees dot column xtime times mul
-four-agree = more first-agrees (more first-agrees (more first-agrees (more (truthful otherBlock (0 ∷ 1 ∷ 0 ∷ 0x63 ∷ 0x64 ∷ []) refl refl) none)))
+four_agree = more first_agrees (more first_agrees (more first_agrees (more (truthful other_block (0 ∷ 1 ∷ 0 ∷ 0x63 ∷ 0x64 ∷ []) refl refl) none)))
 
-another : (pieces : List (List ℕ)) → Agrees fips 3 2 pieces otherBlock → Another fips 3 2 pieces theBlock
+another : (pieces : List (List ℕ)) → Agrees fips 3 2 pieces other_block → Another fips 3 2 pieces the_block
 another pieces a = record {
-  other = otherBlock;
+  other = other_block;
   is_block = record {
     count = refl;
     sizes = more refl (more refl (more refl none));
@@ -86,66 +86,66 @@ another pieces a = record {
 
 -- ---- many copies of the first piece, and then the five
 
-all-copies : {A : Type 0} {P : A → Type 0} (x : A) → P x → (n : ℕ) → All P (replicate n x)
-all-copies x h zero = none
-all-copies x h (suc n) = more h (all-copies x h n)
+all_copies : {A : Type 0} {P : A → Type 0} (x : A) → P x → (n : ℕ) → All P (replicate n x)
+all_copies x h zero = none
+all_copies x h (suc n) = more h (all_copies x h n)
 
 module _ (n : ℕ) where
-  sends-after : (counted : List (List ℕ)) → Agrees fips 3 2 counted theBlock → Sends fips Of3By2 theData (afterMany n) counted
-  unfolding afterMany
-  sends-after counted a = sends (afterMany n) counted (all_append (all-copies first refl n) sizes) (all_append (all-copies first (bytes_of first tt) n) piece_bytes) a
+  sends_after : (counted : List (List ℕ)) → Agrees fips 3 2 counted the_block → Sends fips Of3By2 the_data (after_many n) counted
+  unfolding after_many
+  sends_after counted a = sends (after_many n) counted (all_append (all_copies first refl n) sizes) (all_append (all_copies first (bytes_of first tt) n) piece_bytes) a
 
-  all-agree : Agrees fips 3 2 (afterMany n) theBlock
-  unfolding afterMany Agrees
-  all-agree = all_append (all-copies first (all_head agrees) n) agrees
+  all_agree : Agrees fips 3 2 (after_many n) the_block
+  unfolding after_many Agrees
+  all_agree = all_append (all_copies first (all_head agrees) n) agrees
 
-  no-other-after : Unique fips 3 2 (afterMany n) theBlock
-  unfolding afterMany Unique Agrees
-  no-other-after other o a = no_other other o (all-append-right (replicate n first) (reverse five) a)
+  no_other_after : Unique fips 3 2 (after_many n) the_block
+  unfolding after_many Unique Agrees
+  no_other_after other o a = no_other other o (all_append_right (replicate n first) (reverse five) a)
 
-  front : take n (afterMany n) ≡ replicate n first
-  unfolding afterMany
+  front : take n (after_many n) ≡ replicate n first
+  unfolding after_many
   front = ap (λ (m : ℕ). take m (replicate n first ++ reverse five)) (sym (length-replicate n first)) ∙ take-append_seam (replicate n first) (reverse five)
 
-  front-agrees : Agrees fips 3 2 (take n (afterMany n)) theBlock
+  front_agrees : Agrees fips 3 2 (take n (after_many n)) the_block
   unfolding Agrees
-  front-agrees = rw front (all-copies first (all_head agrees) n)
+  front_agrees = rw front (all_copies first (all_head agrees) n)
 
-  another-before : Another fips 3 2 (take n (afterMany n)) theBlock
+  another_before : Another fips 3 2 (take n (after_many n)) the_block
   unfolding Agrees
-  another-before = rw front (another (replicate n first) (all-copies first first-agrees n))
+  another_before = rw front (another (replicate n first) (all_copies first first_agrees n))
 
-another-in-time : Another fips 3 2 (heard (afterMany takenLimit)) (block_of Of3By2 theData)
-another-in-time = rw padded-data (another-before takenLimit)
+another_in_time : Another fips 3 2 (heard (after_many taken_limit)) (block_of Of3By2 the_data)
+another_in_time = rw padded_data (another_before taken_limit)
 
 -- ---- a machine that is fed with the five
 
-sends-five : Sends fips Of3By2 theData (reverse five) (reverse five)
-sends-five = sends (reverse five) (reverse five) sizes piece_bytes agrees
+sends_five : Sends fips Of3By2 the_data (reverse five) (reverse five)
+sends_five = sends (reverse five) (reverse five) sizes piece_bytes agrees
 
 short : length (sent Of3By2 (reverse five) []) < largest
-unfolding recordsOf
+unfolding records_of
 short = omega arith
 
-five-joined : FiveJoined
-five-joined =
-    let area : List ℕ = replicate blockRoom 0 in
-    let (n, few, (text, last, block, run)) = runs fips area (sent Of3By2 (reverse five) []) (omega (arith, length-replicate {A = ℕ} blockRoom 0)) short in
-    let (ends, data-in) = (hands-over fips Of3By2 theData (reverse five) (reverse five) (purpose fips Of3By2 theData (reverse five) sends-five)).rebuilt
-    (rw padded-data no_other) [] short n area text last block run in
-    record { turns = n; text = text; last = last; block = block; run = run; ends = ends; handed-over = data-in }
+five_joined : FiveJoined
+five_joined =
+    let area : List ℕ = replicate block_room 0 in
+    let (n, few, (text, last, block, run)) = runs fips area (sent Of3By2 (reverse five) []) (omega (arith, length-replicate {A = ℕ} block_room 0)) short in
+    let (ends, data_in) = (hands_over fips Of3By2 the_data (reverse five) (reverse five) (purpose fips Of3By2 the_data (reverse five) sends_five)).rebuilt
+    (rw padded_data no_other) [] short n area text last block run in
+    record { turns = n; text = text; last = last; block = block; run = run; ends = ends; handed_over = data_in }
 
-pub purpose-witness : PurposeWitness
+pub purpose_witness : PurposeWitness
 unfolding Agrees
-purpose-witness = record {
-  sends-five = sends-five;
-  no_other = rw padded-data no_other;
-  five-joined = five-joined;
-  sends-four = sends (reverse four) (reverse four) (all-append-left (reverse four) (fifth ∷ []) sizes) (all-append-left (reverse four) (fifth ∷ []) piece_bytes)
-      (all-append-left (reverse four) (fifth ∷ []) agrees);
-  another = rw padded-data (another (reverse four) four-agree);
-  sends-late = sends-after takenLimit (afterMany takenLimit) (all-agree takenLimit);
-  no-other-in-all = rw padded-data (no-other-after takenLimit);
-  another-in-time = another-in-time;
-  ends_open = ((purpose fips Of3By2 theData (afterMany takenLimit) (sends-after takenLimit (heard (afterMany takenLimit)) (front-agrees takenLimit))).left_open another-in-time []).0;
+purpose_witness = record {
+  sends_five = sends_five;
+  no_other = rw padded_data no_other;
+  five_joined = five_joined;
+  sends_four = sends (reverse four) (reverse four) (all_append_left (reverse four) (fifth ∷ []) sizes) (all_append_left (reverse four) (fifth ∷ []) piece_bytes)
+      (all_append_left (reverse four) (fifth ∷ []) agrees);
+  another = rw padded_data (another (reverse four) four_agree);
+  sends_late = sends_after taken_limit (after_many taken_limit) (all_agree taken_limit);
+  no_other_in_all = rw padded_data (no_other_after taken_limit);
+  another_in_time = another_in_time;
+  ends_open = ((purpose fips Of3By2 the_data (after_many taken_limit) (sends_after taken_limit (heard (after_many taken_limit)) (front_agrees taken_limit))).left_open another_in_time []).0;
 }

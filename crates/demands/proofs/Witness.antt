@@ -14,40 +14,40 @@ use Rattle.galois.specs.FieldLaws.{FieldLaws}
 use Rattle.galois.proofs.Table.{both, both_left, both_right}
 use Rattle.gf256.proofs.Known.{fips}
 use Rattle.linear.specs.All.{none, more, Bytes}
-use Rattle.linear.specs.Choice.{pick, ifZero}
-use Rattle.linear.specs.Rows.{takePiece, reduce, dropEmpty, backward, backwardAt, clearAbove, forward, forwardAt, clearPivoted, pivotFrom, clearBelow, clearBy, scaleRow, addMultiple, swapRows, firstNonzero, entry, allZero}
+use Rattle.linear.specs.Choice.{pick, if_zero}
+use Rattle.linear.specs.Rows.{take_piece, reduce, drop_empty, backward, backward_at, clear_above, forward, forward_at, clear_pivoted, pivot_from, clear_below, clear_by, scale_row, add_multiple, swap_rows, first_nonzero, entry, all_zero}
 use Rattle.linear.specs.Pieces.{column, dot, Truthful}
 use Rattle.linear.specs.Blocks.{Block, Agrees}
 use Rattle.linear.specs.Buffer.{rows_of, flat}
-use Rattle.block.specs.Sizes.{overLimit, sized}
+use Rattle.block.specs.Sizes.{over_limit, sized}
 use Rattle.block.specs.Padding.{Breaks, marker, Carries}
-use Rattle.block.specs.Reading.{lastMarker, readAt, reading, answer_of}
-use Rattle.block.proofs.Reading.{reads-data, reads-broken}
+use Rattle.block.specs.Reading.{last_marker, read_at, reading, answer_of}
+use Rattle.block.proofs.Reading.{reads_data, reads_broken}
 use Rattle.decoder.specs.declared.Decoder.{Decoder}
 use Rattle.decoder.specs.declared.Taken.{Taken}
 use Rattle.decoder.specs.declared.Taken.TheVariants as piece
-use Rattle.decoder.specs.Records.{rowsIn, sound, badState, held_rows}
-use Rattle.decoder.specs.Answers.{takenNumber, completeValues}
-use Rattle.decoder.specs.Entries.{decoderOf, newRefusal, takeRefusal, rowsAfter, after, taking, completed, blockIn, recoverRefusal}
-use Rattle.decoder.specs.Calls.{numberNext, recordNext, bufferNext}
+use Rattle.decoder.specs.Records.{rows_in, sound, bad_state, held_rows}
+use Rattle.decoder.specs.Answers.{taken_number, complete_values}
+use Rattle.decoder.specs.Entries.{decoder_of, new_refusal, take_refusal, rows_after, after, taking, completed, block_in, recover_refusal}
+use Rattle.decoder.specs.Calls.{number_next, record_next, buffer_next}
 use Rattle.demands.specs.History.{History, made, useful}
-use Rattle.demands.specs.Witness.{four, five, theBlock, zeros, zeroBlock, After, Witness}
+use Rattle.demands.specs.Witness.{four, five, the_block, zeros, zero_block, After, Witness}
 
 -- a call that answers 0 goes on with the history
 module _ {𝓕 : FieldLaws} {k L : ℕ} {d : Decoder} {elements : List ℕ} {pieces : List (List ℕ)} (h : History 𝓕 k L d elements pieces) (full : List ℕ) (b : Bytes full) where
-  goes_on : numberNext 𝓕 d elements full ≡ 0 → History 𝓕 k L (recordNext 𝓕 d elements full) (bufferNext 𝓕 d elements full) (full ∷ pieces)
-  unfolding numberNext recordNext bufferNext takenNumber taking
-  goes_on e = useful h b (record { result = go (number_of (takeRefusal d (length elements) (length full))) refl e; left = refl })
+  goes_on : number_next 𝓕 d elements full ≡ 0 → History 𝓕 k L (record_next 𝓕 d elements full) (buffer_next 𝓕 d elements full) (full ∷ pieces)
+  unfolding number_next record_next buffer_next taken_number taking
+  goes_on e = useful h b (record { result = go (number_of (take_refusal d (length elements) (length full))) refl e; left = refl })
     where
-      which : (t : Bool) → takenNumber (pick t (piece.NotUseful (after 𝓕 d elements full)) (piece.Useful (after 𝓕 d elements full))) ≡ 0
+      which : (t : Bool) → taken_number (pick t (piece.NotUseful (after 𝓕 d elements full)) (piece.Useful (after 𝓕 d elements full))) ≡ 0
           → piece.Useful (after 𝓕 d elements full) ≡ pick t (piece.NotUseful (after 𝓕 d elements full)) (piece.Useful (after 𝓕 d elements full))
       which true z = absurd (omega arith)
       which false z = refl
 
-      go : (n : ℕ) → number_of (takeRefusal d (length elements) (length full)) ≡ n
-          → ifZero n (takenNumber (taking 𝓕 d elements full)) (number_of (takeRefusal d (length elements) (length full))) ≡ 0
-          → piece.Useful (ifZero n (after 𝓕 d elements full) d) ≡ ifZero n (taking 𝓕 d elements full) (piece.Refused (takeRefusal d (length elements) (length full)))
-      go zero q z = which (eqb (length (rowsAfter 𝓕 d elements full)) (rowsIn d)) z
+      go : (n : ℕ) → number_of (take_refusal d (length elements) (length full)) ≡ n
+          → if_zero n (taken_number (taking 𝓕 d elements full)) (number_of (take_refusal d (length elements) (length full))) ≡ 0
+          → piece.Useful (if_zero n (after 𝓕 d elements full) d) ≡ if_zero n (taking 𝓕 d elements full) (piece.Refused (take_refusal d (length elements) (length full)))
+      go zero q z = which (eqb (length (rows_after 𝓕 d elements full)) (rows_in d)) z
       go (suc n) q z = absurd (suc-ne-zero n (sym q ∙ z))
 
 -- a list of bytes, tested
@@ -60,38 +60,38 @@ bytes_of [] t = none
 bytes_of (x ∷ xs) t = more (ltb→lt x 256 (both_left (ltb x 256) (below xs) t)) (bytes_of xs (both_right (ltb x 256) (below xs) t))
 
 unfoldable start : After []
-unfolding newRefusal overLimit
+unfolding new_refusal over_limit
 start = record {
-  decoder = decoderOf 3 2 0 0;
+  decoder = decoder_of 3 2 0 0;
   elements = replicate 15 0;
   history = made {buffer = replicate 15 0} (record { result = refl; left = refl });
 }
 
 -- one call more, which antt sees to answer 0
-unfoldable next : {pieces : List (List ℕ)} (s : After pieces) (full : List ℕ) → T (below full) → numberNext fips s.decoder s.elements full ≡ 0 → After (full ∷ pieces)
+unfoldable next : {pieces : List (List ℕ)} (s : After pieces) (full : List ℕ) → T (below full) → number_next fips s.decoder s.elements full ≡ 0 → After (full ∷ pieces)
 next s full t e = record {
-  decoder = recordNext fips s.decoder s.elements full;
-  elements = bufferNext fips s.decoder s.elements full;
+  decoder = record_next fips s.decoder s.elements full;
+  elements = buffer_next fips s.decoder s.elements full;
   history = goes_on s.history full (bytes_of full t) e;
 }
 
-unfoldable after-four : After four
-unfolding xtime times mul pow inv takePiece reduce dropEmpty backward backwardAt clearAbove forward forwardAt clearPivoted pivotFrom clearBelow clearBy scaleRow addMultiple swapRows firstNonzero entry allZero rows_of flat overLimit sized sound badState held_rows takenNumber takeRefusal rowsAfter after taking numberNext recordNext bufferNext start next
-after-four =
+unfoldable after_four : After four
+unfolding xtime times mul pow inv take_piece reduce drop_empty backward backward_at clear_above forward forward_at clear_pivoted pivot_from clear_below clear_by scale_row add_multiple swap_rows first_nonzero entry all_zero rows_of flat over_limit sized sound bad_state held_rows taken_number take_refusal rows_after after taking number_next record_next buffer_next start next
+after_four =
     next
     (next (next (next start (0 ∷ 0 ∷ 1 ∷ 0x81 ∷ 0 ∷ []) tt refl) (0 ∷ 0 ∷ 1 ∷ 0x81 ∷ 0 ∷ []) tt refl) (0 ∷ 0 ∷ 1 ∷ 0x81 ∷ 0 ∷ []) tt refl)
     (0 ∷ 1 ∷ 0 ∷ 0x63 ∷ 0x64 ∷ []) tt refl
 
-unfoldable after-five : After five
-unfolding xtime times mul pow inv takePiece reduce dropEmpty backward backwardAt clearAbove forward forwardAt clearPivoted pivotFrom clearBelow clearBy scaleRow addMultiple swapRows firstNonzero entry allZero rows_of flat overLimit sized sound badState held_rows takenNumber takeRefusal rowsAfter after taking numberNext recordNext bufferNext start next after-four
-after-five = next after-four (1 ∷ 0 ∷ 0 ∷ 0x61 ∷ 0x62 ∷ []) tt refl
+unfoldable after_five : After five
+unfolding xtime times mul pow inv take_piece reduce drop_empty backward backward_at clear_above forward forward_at clear_pivoted pivot_from clear_below clear_by scale_row add_multiple swap_rows first_nonzero entry all_zero rows_of flat over_limit sized sound bad_state held_rows taken_number take_refusal rows_after after taking number_next record_next buffer_next start next after_four
+after_five = next after_four (1 ∷ 0 ∷ 0 ∷ 0x61 ∷ 0x62 ∷ []) tt refl
 
-unfoldable after-zeros : After zeros
-unfolding xtime times mul pow inv takePiece reduce dropEmpty backward backwardAt clearAbove forward forwardAt clearPivoted pivotFrom clearBelow clearBy scaleRow addMultiple swapRows firstNonzero entry allZero rows_of flat overLimit sized sound badState held_rows takenNumber takeRefusal rowsAfter after taking numberNext recordNext bufferNext start next
-after-zeros = next (next (next start (1 ∷ 0 ∷ 0 ∷ 0 ∷ 0 ∷ []) tt refl) (0 ∷ 1 ∷ 0 ∷ 0 ∷ 0 ∷ []) tt refl) (0 ∷ 0 ∷ 1 ∷ 0 ∷ 0 ∷ []) tt refl
+unfoldable after_zeros : After zeros
+unfolding xtime times mul pow inv take_piece reduce drop_empty backward backward_at clear_above forward forward_at clear_pivoted pivot_from clear_below clear_by scale_row add_multiple swap_rows first_nonzero entry all_zero rows_of flat over_limit sized sound bad_state held_rows taken_number take_refusal rows_after after taking number_next record_next buffer_next start next
+after_zeros = next (next (next start (1 ∷ 0 ∷ 0 ∷ 0 ∷ 0 ∷ []) tt refl) (0 ∷ 1 ∷ 0 ∷ 0 ∷ 0 ∷ []) tt refl) (0 ∷ 0 ∷ 1 ∷ 0 ∷ 0 ∷ []) tt refl
 
-the_block : Block 3 2 theBlock
-the_block = record {
+the_block_lem : Block 3 2 the_block
+the_block_lem = record {
   count = refl;
   sizes = more refl (more refl (more refl none));
   bytes = more (bytes_of (0x61 ∷ 0x62 ∷ []) tt) (more (bytes_of (0x63 ∷ 0x64 ∷ []) tt) (more (bytes_of (0x81 ∷ 0 ∷ []) tt) none));
@@ -105,50 +105,50 @@ truthful block full a b zero h = a
 truthful block full a b (suc zero) h = b
 truthful block full a b (suc (suc j)) h = absurd (not-suc-le-zero (le_of_suc-le-suc (le_of_suc-le-suc h)))
 
-agrees : Agrees fips 3 2 five theBlock
+agrees : Agrees fips 3 2 five the_block
 unfolding Agrees dot column xtime times mul
 agrees =
-    more (truthful theBlock (1 ∷ 0 ∷ 0 ∷ 0x61 ∷ 0x62 ∷ []) refl refl)
-    (more (truthful theBlock (0 ∷ 1 ∷ 0 ∷ 0x63 ∷ 0x64 ∷ []) refl refl)
-    (more (truthful theBlock (0 ∷ 0 ∷ 1 ∷ 0x81 ∷ 0 ∷ []) refl refl)
-    (more (truthful theBlock (0 ∷ 0 ∷ 1 ∷ 0x81 ∷ 0 ∷ []) refl refl) (more (truthful theBlock (0 ∷ 0 ∷ 1 ∷ 0x81 ∷ 0 ∷ []) refl refl) none))))
+    more (truthful the_block (1 ∷ 0 ∷ 0 ∷ 0x61 ∷ 0x62 ∷ []) refl refl)
+    (more (truthful the_block (0 ∷ 1 ∷ 0 ∷ 0x63 ∷ 0x64 ∷ []) refl refl)
+    (more (truthful the_block (0 ∷ 0 ∷ 1 ∷ 0x81 ∷ 0 ∷ []) refl refl)
+    (more (truthful the_block (0 ∷ 0 ∷ 1 ∷ 0x81 ∷ 0 ∷ []) refl refl) (more (truthful the_block (0 ∷ 0 ∷ 1 ∷ 0x81 ∷ 0 ∷ []) refl refl) none))))
 
-carries : Carries marker (flat theBlock) (0x61 ∷ 0x62 ∷ 0x63 ∷ 0x64 ∷ [])
-unfolding flat reading readAt lastMarker allZero
-carries = (reads-data marker (flat theBlock) (0x61 ∷ 0x62 ∷ 0x63 ∷ 0x64 ∷ [])).1 (refl, refl)
+carries : Carries marker (flat the_block) (0x61 ∷ 0x62 ∷ 0x63 ∷ 0x64 ∷ [])
+unfolding flat reading read_at last_marker all_zero
+carries = (reads_data marker (flat the_block) (0x61 ∷ 0x62 ∷ 0x63 ∷ 0x64 ∷ [])).1 (refl, refl)
 
-no-marker : Block 3 2 zeroBlock
-no-marker = record {
+no_marker : Block 3 2 zero_block
+no_marker = record {
   count = refl;
   sizes = more refl (more refl (more refl none));
   bytes = more (bytes_of (0 ∷ 0 ∷ []) tt) (more (bytes_of (0 ∷ 0 ∷ []) tt) (more (bytes_of (0 ∷ 0 ∷ []) tt) none));
 }
 
-agrees-too : Agrees fips 3 2 zeros zeroBlock
+agrees_too : Agrees fips 3 2 zeros zero_block
 unfolding Agrees dot column xtime times mul
-agrees-too =
-    more (truthful zeroBlock (0 ∷ 0 ∷ 1 ∷ 0 ∷ 0 ∷ []) refl refl)
-    (more (truthful zeroBlock (0 ∷ 1 ∷ 0 ∷ 0 ∷ 0 ∷ []) refl refl) (more (truthful zeroBlock (1 ∷ 0 ∷ 0 ∷ 0 ∷ 0 ∷ []) refl refl) none))
+agrees_too =
+    more (truthful zero_block (0 ∷ 0 ∷ 1 ∷ 0 ∷ 0 ∷ []) refl refl)
+    (more (truthful zero_block (0 ∷ 1 ∷ 0 ∷ 0 ∷ 0 ∷ []) refl refl) (more (truthful zero_block (1 ∷ 0 ∷ 0 ∷ 0 ∷ 0 ∷ []) refl refl) none))
 
-broken : Breaks marker (flat zeroBlock)
-unfolding flat reading readAt lastMarker answer_of
-broken = (reads-broken marker (flat zeroBlock)).1 refl
+broken : Breaks marker (flat zero_block)
+unfolding flat reading read_at last_marker answer_of
+broken = (reads_broken marker (flat zero_block)).1 refl
 
 pub witness : Witness
-unfolding completeValues xtime times mul pow inv takePiece reduce dropEmpty backward backwardAt clearAbove forward forwardAt clearPivoted pivotFrom clearBelow clearBy scaleRow addMultiple swapRows firstNonzero entry allZero rows_of flat overLimit sized sound badState held_rows takenNumber takeRefusal rowsAfter after taking numberNext recordNext bufferNext start next completed blockIn recoverRefusal reading readAt lastMarker answer_of after-four after-five after-zeros
+unfolding complete_values xtime times mul pow inv take_piece reduce drop_empty backward backward_at clear_above forward forward_at clear_pivoted pivot_from clear_below clear_by scale_row add_multiple swap_rows first_nonzero entry all_zero rows_of flat over_limit sized sound bad_state held_rows taken_number take_refusal rows_after after taking number_next record_next buffer_next start next completed block_in recover_refusal reading read_at last_marker answer_of after_four after_five after_zeros
 witness =
     record {
-      block = the_block;
+      block = the_block_lem;
       agrees = agrees;
       carries = carries;
-      after-four = after-four;
+      after_four = after_four;
       still_open = refl;
-      after-five = after-five;
+      after_five = after_five;
       closed = refl;
-      no-marker = no-marker;
-      agrees-too = agrees-too;
+      no_marker = no_marker;
+      agrees_too = agrees_too;
       broken = broken;
-      after-zeros = after-zeros;
-      closed-too = refl;
-      no-data = refl;
+      after_zeros = after_zeros;
+      closed_too = refl;
+      no_data = refl;
     }

@@ -7,7 +7,7 @@ use Rattle.linear.specs.All.{Bytes}
 use Rattle.decoder.specs.declared.Decoder.{Decoder}
 use Rattle.decoder.specs.declared.Made.TheVariants as new
 use Rattle.decoder.specs.declared.Taken.TheVariants as piece
-use Rattle.decoder.specs.Records.{k_of, FOf}
+use Rattle.decoder.specs.Records.{k_of, f_of}
 use Rattle.decoder.specs.Entries.{NewDecoder, Decoded}
 use Rattle.stored.specs.declared.Saved.TheVariants as saved
 use Rattle.stored.specs.declared.Loaded.TheVariants as loaded
@@ -19,11 +19,11 @@ pub data History (𝓕 : FieldLaws) (k L : ℕ) : Decoder → List ℕ → List 
   made : {buffer elements : List ℕ} {d : Decoder} → NewDecoder L k buffer (new.Of d) elements → History 𝓕 k L d elements []
   useful : {d d' : Decoder} {elements elements' full : List ℕ} {pieces : List (List ℕ)} → History 𝓕 k L d elements pieces
       → Bytes full → Decoded 𝓕 d elements full (piece.Useful d') elements' → History 𝓕 k L d' elements' (full ∷ pieces)
-  notUseful : {d d' : Decoder} {elements elements' full : List ℕ} {pieces : List (List ℕ)} → History 𝓕 k L d elements pieces
+  not_useful : {d d' : Decoder} {elements elements' full : List ℕ} {pieces : List (List ℕ)} → History 𝓕 k L d elements pieces
       → Bytes full → Decoded 𝓕 d elements full (piece.NotUseful d') elements' → History 𝓕 k L d' elements' (full ∷ pieces)
   -- saved, and loaded from what was written, whatever stands behind it, into a buffer of any content that is long enough
   resumed : {d d' : Decoder} {elements out out' : List ℕ} {pieces : List (List ℕ)} {n : ℕ} → History 𝓕 k L d elements pieces → Saving d elements out (saved.Bytes n) out'
-      → (behind matrix : List ℕ) {matrix' : List ℕ} → k_of d * FOf d ≤ length matrix → Loading (take n out' ++ behind) matrix (loaded.Of d') matrix'
+      → (behind matrix : List ℕ) {matrix' : List ℕ} → k_of d * f_of d ≤ length matrix → Loading (take n out' ++ behind) matrix (loaded.Of d') matrix'
       → History 𝓕 k L d' matrix' pieces
   refused : {d : Decoder} {elements elements' full : List ℕ} {pieces : List (List ℕ)} {a : Answer} → History 𝓕 k L d elements pieces
       → Decoded 𝓕 d elements full (piece.Refused a) elements' → History 𝓕 k L d elements' pieces

@@ -9,15 +9,15 @@ use Rattle.stored.specs.declared.Loaded.TheVariants as loaded
 use Rattle.listing.specs.declared.join.Held.TheVariants as held
 use Rattle.listing.specs.declared.join.Joining.{Joining}
 use Rattle.listing.specs.Listing.{lines_from}
-use Rattle.joiner.specs.Runs.{closeFrom}
+use Rattle.joiner.specs.Runs.{close_from}
 
-abbrev pub goingOn : Decoder → ℕ → ℕ → Joining
-goingOn d pieces repeats = record { held = held.Of d; pieces = pieces; repeats = repeats }
+abbrev pub going_on : Decoder → ℕ → ℕ → Joining
+going_on d pieces repeats = record { held = held.Of d; pieces = pieces; repeats = repeats }
 
 -- a decoder and what was loaded of it: the same record, and beside it a matrix that prints the same and hands over the same
 pub record Resumed (𝓕 : FieldLaws) (d : Decoder) (elements : List ℕ) (r : Loaded) (matrix : List ℕ) : Type 0 where
-  pub same-record : r ≡ loaded.Of d
+  pub same_record : r ≡ loaded.Of d
   pub same_lines : (pieces repeats : ℕ) (later : Stream)
-      → lines_from 𝓕 (goingOn d pieces repeats) elements later ≡ lines_from 𝓕 (goingOn d pieces repeats) matrix later
-  pub same-close : (pieces repeats : ℕ) (later : Stream)
-      → closeFrom 𝓕 (goingOn d pieces repeats) elements later ≡ closeFrom 𝓕 (goingOn d pieces repeats) matrix later
+      → lines_from 𝓕 (going_on d pieces repeats) elements later ≡ lines_from 𝓕 (going_on d pieces repeats) matrix later
+  pub same_close : (pieces repeats : ℕ) (later : Stream)
+      → close_from 𝓕 (going_on d pieces repeats) elements later ≡ close_from 𝓕 (going_on d pieces repeats) matrix later

@@ -7,8 +7,8 @@ use Rattle.linear.specs.Blocks.{Block, Agrees}
 use Rattle.linear.specs.Buffer.{flat}
 use Rattle.block.specs.Padding.{marker, Breaks, Carries}
 use Rattle.decoder.specs.declared.Decoder.{Decoder}
-use Rattle.decoder.specs.Answers.{completeValues}
-use Rattle.decoder.specs.Entries.{completed, recoverRefusal}
+use Rattle.decoder.specs.Answers.{complete_values}
+use Rattle.decoder.specs.Entries.{completed, recover_refusal}
 use Rattle.demands.specs.Demand3.{Closed}
 use Rattle.demands.specs.History.{History}
 
@@ -19,8 +19,8 @@ four = (0 ∷ 1 ∷ 0 ∷ 0x63 ∷ 0x64 ∷ []) ∷ (0 ∷ 0 ∷ 1 ∷ 0x81 ∷ 
 abbrev pub five : List (List ℕ)
 five = (1 ∷ 0 ∷ 0 ∷ 0x61 ∷ 0x62 ∷ []) ∷ four
 
-abbrev pub theBlock : List (List ℕ)
-theBlock = (0x61 ∷ 0x62 ∷ []) ∷ (0x63 ∷ 0x64 ∷ []) ∷ (0x81 ∷ 0 ∷ []) ∷ []
+abbrev pub the_block : List (List ℕ)
+the_block = (0x61 ∷ 0x62 ∷ []) ∷ (0x63 ∷ 0x64 ∷ []) ∷ (0x81 ∷ 0 ∷ []) ∷ []
 
 -- a decoder after such calls
 pub record After (pieces : List (List ℕ)) : Type 0 where
@@ -32,20 +32,20 @@ pub record After (pieces : List (List ℕ)) : Type 0 where
 abbrev pub zeros : List (List ℕ)
 zeros = (0 ∷ 0 ∷ 1 ∷ 0 ∷ 0 ∷ []) ∷ (0 ∷ 1 ∷ 0 ∷ 0 ∷ 0 ∷ []) ∷ (1 ∷ 0 ∷ 0 ∷ 0 ∷ 0 ∷ []) ∷ []
 
-abbrev pub zeroBlock : List (List ℕ)
-zeroBlock = (0 ∷ 0 ∷ []) ∷ (0 ∷ 0 ∷ []) ∷ (0 ∷ 0 ∷ []) ∷ []
+abbrev pub zero_block : List (List ℕ)
+zero_block = (0 ∷ 0 ∷ []) ∷ (0 ∷ 0 ∷ []) ∷ (0 ∷ 0 ∷ []) ∷ []
 
 pub record Witness : Type 0 where
-  pub block : Block 3 2 theBlock
-  pub agrees : Agrees fips 3 2 five theBlock
-  pub carries : Carries marker (flat theBlock) (0x61 ∷ 0x62 ∷ 0x63 ∷ 0x64 ∷ [])
-  pub after-four : After four
-  pub still_open : completeValues (completed after-four.decoder) ≡ 0 ∷ []
-  pub after-five : After five
-  pub closed : Closed after-five.decoder
-  pub no-marker : Block 3 2 zeroBlock
-  pub agrees-too : Agrees fips 3 2 zeros zeroBlock
-  pub broken : Breaks marker (flat zeroBlock)
-  pub after-zeros : After zeros
-  pub closed-too : Closed after-zeros.decoder
-  pub no-data : number_of (recoverRefusal marker after-zeros.decoder after-zeros.elements 6) ≡ 11
+  pub block : Block 3 2 the_block
+  pub agrees : Agrees fips 3 2 five the_block
+  pub carries : Carries marker (flat the_block) (0x61 ∷ 0x62 ∷ 0x63 ∷ 0x64 ∷ [])
+  pub after_four : After four
+  pub still_open : complete_values (completed after_four.decoder) ≡ 0 ∷ []
+  pub after_five : After five
+  pub closed : Closed after_five.decoder
+  pub no_marker : Block 3 2 zero_block
+  pub agrees_too : Agrees fips 3 2 zeros zero_block
+  pub broken : Breaks marker (flat zero_block)
+  pub after_zeros : After zeros
+  pub closed_too : Closed after_zeros.decoder
+  pub no_data : number_of (recover_refusal marker after_zeros.decoder after_zeros.elements 6) ≡ 11

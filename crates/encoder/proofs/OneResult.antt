@@ -9,16 +9,16 @@ use Rattle.encoder.specs.declared.Encoder.{Encoder}
 use Rattle.encoder.specs.declared.Made.{Made}
 use Rattle.encoder.specs.Entries.{NewPadded, NewUnpadded, Coded, CodedWhole}
 
-pub one-new-padded : {M : ℕ} {bytes block : List ℕ} {k : ℕ} {r r' : Made} {last last' : List ℕ} → NewPadded M bytes block k r last
+pub one_new_padded : {M : ℕ} {bytes block : List ℕ} {k : ℕ} {r r' : Made} {last last' : List ℕ} → NewPadded M bytes block k r last
     → NewPadded M bytes block k r' last' → (r ≡ r') × (last ≡ last')
-one-new-padded x y = (x.result ∙ sym y.result, x.left ∙ sym y.left)
+one_new_padded x y = (x.result ∙ sym y.result, x.left ∙ sym y.left)
 
-pub one-new-unpadded : {n k : ℕ} {r r' : Made} → NewUnpadded n k r → NewUnpadded n k r' → r ≡ r'
-one-new-unpadded x y = x.result ∙ sym y.result
+pub one_new_unpadded : {n k : ℕ} {r r' : Made} → NewUnpadded n k r → NewUnpadded n k r' → r ≡ r'
+one_new_unpadded x y = x.result ∙ sym y.result
 
 module _ {𝓕 : FieldLaws} {e : Encoder} {block vector out : List ℕ} {r r' : Answer} {last last' : List ℕ} where
-  pub one-coded : Coded 𝓕 e block vector out r last → Coded 𝓕 e block vector out r' last' → (r ≡ r') × (last ≡ last')
-  one-coded x y = (x.result ∙ sym y.result, x.left ∙ sym y.left)
+  pub one_coded : Coded 𝓕 e block vector out r last → Coded 𝓕 e block vector out r' last' → (r ≡ r') × (last ≡ last')
+  one_coded x y = (x.result ∙ sym y.result, x.left ∙ sym y.left)
 
-  pub one-coded-whole : CodedWhole 𝓕 e block vector out r last → CodedWhole 𝓕 e block vector out r' last' → (r ≡ r') × (last ≡ last')
-  one-coded-whole x y = (x.result ∙ sym y.result, x.left ∙ sym y.left)
+  pub one_coded_whole : CodedWhole 𝓕 e block vector out r last → CodedWhole 𝓕 e block vector out r' last' → (r ≡ r') × (last ≡ last')
+  one_coded_whole x y = (x.result ∙ sym y.result, x.left ∙ sym y.left)

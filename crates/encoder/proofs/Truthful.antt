@@ -14,19 +14,19 @@ use Rattle.linear.specs.All.{Bytes}
 use Rattle.linear.specs.Buffer.{rows_of}
 use Rattle.linear.specs.Blocks.{Block}
 use Rattle.linear.specs.Pieces.{Piece, Truthful, encode}
-use Rattle.linear.proofs.Coding.{encode-piece, encode-truthful}
+use Rattle.linear.proofs.Coding.{encode_piece, encode_truthful}
 use Rattle.block.proofs.Chosen.{passes}
-use Rattle.block.proofs.RowBytes.{block-of}
+use Rattle.block.proofs.RowBytes.{block_of_lem}
 use Rattle.encoder.specs.declared.Encoder.{Encoder}
-use Rattle.encoder.specs.Entries.{badState, codeWholeRefusal, CodedWhole}
+use Rattle.encoder.specs.Entries.{bad_state, code_whole_refusal, CodedWhole}
 use Rattle.encoder.proofs.State.{held}
 
 module _ (𝓕 : FieldLaws) (e : Encoder) (block vector out last : List ℕ) (c : CodedWhole 𝓕 e block vector out Ok last) (bb : Bytes block) where
   -- the tests that Ok has passed
-  passed : (badState e (length block) ≡ false) × (length vector ≡ e.piece_count)
-  unfolding codeWholeRefusal
+  passed : (bad_state e (length block) ≡ false) × (length vector ≡ e.piece_count)
+  unfolding code_whole_refusal
   passed =
-      let p = passes (badState e (length block)) BadState _ (omega arith) (sym c.result) in
+      let p = passes (bad_state e (length block)) BadState _ (omega arith) (sym c.result) in
       let q = passes (not (eqb (length out) (e.piece_count + e.piece_byte_len))) InvalidOutputBuffer _ (omega arith) p.1 in
       let r = passes (not (eqb (length vector) e.piece_count)) CodingVectorLengthMismatch _ (omega arith) q.1 in
       (p.0, eqb-true _ _ (not-false _ r.0))
@@ -35,14 +35,14 @@ module _ (𝓕 : FieldLaws) (e : Encoder) (block vector out last : List ℕ) (c 
   coded = sym (rw (sym c.result) at c.left)
 
   pieces : Block e.piece_count e.piece_byte_len (rows_of e.piece_byte_len e.piece_count block)
-  pieces = block-of e.piece_count e.piece_byte_len block (held e (length block) passed.0).long bb
+  pieces = block_of_lem e.piece_count e.piece_byte_len block (held e (length block) passed.0).long bb
 
-  pub coded-piece : Bytes vector → Piece e.piece_count e.piece_byte_len last
-  coded-piece bv =
+  pub coded_piece : Bytes vector → Piece e.piece_count e.piece_byte_len last
+  coded_piece bv =
       subst (Piece e.piece_count e.piece_byte_len) coded
-      (encode-piece 𝓕 e.piece_count e.piece_byte_len (rows_of e.piece_byte_len e.piece_count block) vector pieces passed.1 bv)
+      (encode_piece 𝓕 e.piece_count e.piece_byte_len (rows_of e.piece_byte_len e.piece_count block) vector pieces passed.1 bv)
 
-  pub coded-truthful : Truthful 𝓕 e.piece_count e.piece_byte_len (rows_of e.piece_byte_len e.piece_count block) last
-  coded-truthful =
+  pub coded_truthful : Truthful 𝓕 e.piece_count e.piece_byte_len (rows_of e.piece_byte_len e.piece_count block) last
+  coded_truthful =
       subst (Truthful 𝓕 e.piece_count e.piece_byte_len (rows_of e.piece_byte_len e.piece_count block)) coded
-      (encode-truthful 𝓕 e.piece_count e.piece_byte_len (rows_of e.piece_byte_len e.piece_count block) vector pieces passed.1)
+      (encode_truthful 𝓕 e.piece_count e.piece_byte_len (rows_of e.piece_byte_len e.piece_count block) vector pieces passed.1)

@@ -2,18 +2,18 @@
 use Rattle.std.specs.Prelude.{List, [], ◌∷◌, ℕ}
 use Rattle.answers.specs.Number.{number_of}
 use Rattle.answers.specs.declared.Answer.{Answer}
-use Rattle.block.specs.Refusal.{ifOk}
+use Rattle.block.specs.Refusal.{if_ok}
 use Rattle.encoder.specs.declared.Made.{Made}
 use Rattle.encoder.specs.declared.Made.TheVariants.{Of, Refused}
 
-unfoldable pub madeNumber : Made → ℕ
-madeNumber (Of e) = 0
-madeNumber (Refused a) = number_of a
+unfoldable pub made_number : Made → ℕ
+made_number (Of e) = 0
+made_number (Refused a) = number_of a
 
-unfoldable pub madeValues : Made → List ℕ
-madeValues (Of e) = e.piece_count ∷ e.piece_byte_len ∷ []
-madeValues (Refused a) = []
+unfoldable pub made_values : Made → List ℕ
+made_values (Of e) = e.piece_count ∷ e.piece_byte_len ∷ []
+made_values (Refused a) = []
 
 -- the encoder of k pieces of L bytes, unless it is refused
 unfoldable pub made : Answer → ℕ → ℕ → Made
-made refusal k L = ifOk refusal (Of (record { piece_count = k; piece_byte_len = L })) (Refused refusal)
+made refusal k L = if_ok refusal (Of (record { piece_count = k; piece_byte_len = L })) (Refused refusal)

@@ -5,7 +5,7 @@ ghost use Rattle.field.specs.FieldOf.{field_of};
 ghost use Rattle.block.specs.Padding.{marker, filled};
 ghost use Rattle.block.specs.Sizes.{sized};
 ghost use Rattle.block.specs.Counts.{counted};
-ghost use Rattle.encoder.specs.Entries.{NewPadded, NewUnpadded, badState, Coded, CodedWhole};
+ghost use Rattle.encoder.specs.Entries.{NewPadded, NewUnpadded, bad_state, Coded, CodedWhole};
 
 use answers::Answer;
 use block::{BOUNDARY_MARKER, Count};
@@ -124,7 +124,7 @@ impl Encoder {
 
     // The record's numbers are good, and the lent block is as long as they say.
     fn holds(self, block: &[u8]) -> bool
-        ensures { result ≡ not (badState self (length block.now)) }
+        ensures { result ≡ not (bad_state self (length block.now)) }
     {
         if self.sound() {
             return self.piece_count * self.piece_byte_len <= block.len();

@@ -12,8 +12,8 @@ pub named : (f : Field) → Fips197 ≡ f
 named Fips197 = refl
 
 -- what a reader of the contracts has to know of `field_of`
-pub fips-mul : (field_of Fips197).mul ≡ mul polynomial
-fips-mul = refl
+pub fips_mul : (field_of Fips197).mul ≡ mul polynomial
+fips_mul = refl
 
-pub fips-inv : (field_of Fips197).inv ≡ inv polynomial
-fips-inv = refl
+pub fips_inv : (field_of Fips197).inv ≡ inv polynomial
+fips_inv = refl

@@ -1,8 +1,8 @@
 // The field named by value: the rows and all that stands on them take it as a parameter. Another field is a crate of tables below
 // this one and a case here.
 ghost use Rattle.std.specs.Prelude.{◌≡◌};
-ghost use Rattle.galois.specs.Quotient.{inverseOf, quotient_of};
-ghost use Rattle.galois.specs.Multiples.{multiplesOf};
+ghost use Rattle.galois.specs.Quotient.{inverse_of, quotient_of};
+ghost use Rattle.galois.specs.Multiples.{multiples_of};
 ghost use Rattle.field.specs.FieldOf.{field_of};
 
 use galois::Quotient;
@@ -23,7 +23,7 @@ impl Field {
     }
 
     pub fn inv(self, a: u8) -> Quotient
-        ensures { result ≡ inverseOf (field_of self).inv a }
+        ensures { result ≡ inverse_of (field_of self).inv a }
     {
         match self {
             Field::Fips197 => Gf256::new(a).inv(),
@@ -49,7 +49,7 @@ impl Field {
 
     // q times 1, x, .., x^7: a product with q is the sum of those that the other factor's bits choose.
     pub fn multiples(self, q: u8) -> [u8; 8]
-        ensures { result ≡ multiplesOf (field_of self) q }
+        ensures { result ≡ multiples_of (field_of self) q }
     {
         let m1 = self.times_x(q);
         let m2 = self.times_x(m1);

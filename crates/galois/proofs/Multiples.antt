@@ -8,9 +8,9 @@ use native.Mathlib.Nat as nat
 use native.Mathlib.Omega.{arith}
 use Rattle.galois.specs.Gf.{◌⊕◌}
 use Rattle.galois.specs.FieldLaws.{FieldLaws}
-use Rattle.galois.specs.Multiples.{multiplesOf}
-use Rattle.galois.proofs.Sum.{⊕-comm, ⊕-shl, ⊕-above, low_bits, digit, digit-through}
-use Rattle.galois.proofs.Field.{mul-zero, mul_left_comm}
+use Rattle.galois.specs.Multiples.{multiples_of}
+use Rattle.galois.proofs.Sum.{⊕_comm, ⊕_shl, ⊕_above, low_bits, digit, digit_through}
+use Rattle.galois.proofs.Field.{mul_zero, mul_left_comm}
 
 -- the sum of those multiples whose bit is set in b, the lowest bit first
 unfoldable pub chosen : List ℕ → ℕ → ℕ
@@ -24,38 +24,38 @@ doubling F q (suc n) w = F.mul q w ∷ doubling F q n (w * 2)
 
 module _ (F : FieldLaws) (q : ℕ) where
   -- the n low bits of b, times 2^i
-  by-doubling : (n i b : ℕ) → chosen (doubling F q n (2 ^ i)) b ≡ F.mul q (b % 2 ^ n * 2 ^ i)
+  by_doubling : (n i b : ℕ) → chosen (doubling F q n (2 ^ i)) b ≡ F.mul q (b % 2 ^ n * 2 ^ i)
   unfolding chosen doubling
-  by-doubling zero i b = sym (ap (F.mul q) (ap (λ (x : ℕ). x * 2 ^ i) (mod-one b) ∙ nat.zero-mul (2 ^ i)) ∙ mul-zero F q)
-  by-doubling (suc n) i b =
-      ap₂ (λ (x y : ℕ). x ⊕ y) (sym (digit-through (F.mul q) (mul-zero F q) (b % 2) (2 ^ i) (digit b)))
-      (ap (λ (w : ℕ). chosen (doubling F q n w) (b / 2)) (sym (pow-suc 2 i)) ∙ by-doubling n (suc i) (b / 2))
-      ∙ sym (F.mul-⊕ q (b % 2 * 2 ^ i) (b / 2 % 2 ^ n * 2 ^ suc i))
+  by_doubling zero i b = sym (ap (F.mul q) (ap (λ (x : ℕ). x * 2 ^ i) (mod-one b) ∙ nat.zero-mul (2 ^ i)) ∙ mul_zero F q)
+  by_doubling (suc n) i b =
+      ap₂ (λ (x y : ℕ). x ⊕ y) (sym (digit_through (F.mul q) (mul_zero F q) (b % 2) (2 ^ i) (digit b)))
+      (ap (λ (w : ℕ). chosen (doubling F q n w) (b / 2)) (sym (pow-suc 2 i)) ∙ by_doubling n (suc i) (b / 2))
+      ∙ sym (F.mul_⊕ q (b % 2 * 2 ^ i) (b / 2 % 2 ^ n * 2 ^ suc i))
       ∙ ap (F.mul q) shifted
     where
       shifted : b % 2 * 2 ^ i ⊕ b / 2 % 2 ^ n * 2 ^ suc i ≡ b % 2 ^ suc n * 2 ^ i
       shifted =
           ap (λ (x : ℕ). b % 2 * 2 ^ i ⊕ x)
           (ap (λ (x : ℕ). b / 2 % 2 ^ n * x) (pow-suc 2 i ∙ nat.mul_comm (2 ^ i) 2) ∙ sym (nat.mul_assoc (b / 2 % 2 ^ n) 2 (2 ^ i)))
-          ∙ sym (⊕-shl (b % 2) (b / 2 % 2 ^ n * 2) i) ∙ ap (λ (x : ℕ). x * 2 ^ i) (sym (low_bits n b))
+          ∙ sym (⊕_shl (b % 2) (b / 2 % 2 ^ n * 2) i) ∙ ap (λ (x : ℕ). x * 2 ^ i) (sym (low_bits n b))
 
-  pub by_bits : (b : ℕ) → b < 256 → chosen (multiplesOf F q) b ≡ F.mul q b
-  unfolding multiplesOf doubling
-  by_bits b h = by-doubling 8 0 b ∙ ap (F.mul q) (nat.mul-one (b % 256) ∙ mod-eq_of_lt h)
+  pub by_bits : (b : ℕ) → b < 256 → chosen (multiples_of F q) b ≡ F.mul q b
+  unfolding multiples_of doubling
+  by_bits b h = by_doubling 8 0 b ∙ ap (F.mul q) (nat.mul-one (b % 256) ∙ mod-eq_of_lt h)
 
 -- ---- multiplication by x
 
 module _ (F : FieldLaws) where
   -- of a byte: each bit moves up, and x · x^7 stands for the one that falls out
-  pub by-x : (a : ℕ) → a < 256 → F.mul 2 a ≡ a % 128 * 2 ⊕ a / 128 * F.mul 2 128
-  by-x a h =
+  pub by_x : (a : ℕ) → a < 256 → F.mul 2 a ≡ a % 128 * 2 ⊕ a / 128 * F.mul 2 128
+  by_x a h =
       let bit : a / 128 < 2 = omega arith in
       let low : a % 128 < 128 = omega arith in
       let parts : a ≡ a / 128 * 128 + a % 128 = omega arith in
-      ap (F.mul 2) (parts ∙ sym (⊕-above (a / 128) 7 (a % 128) low)) ∙ F.mul-⊕ 2 (a / 128 * 128) (a % 128)
-      ∙ ap₂ (λ (x y : ℕ). x ⊕ y) (digit-through (F.mul 2) (mul-zero F 2) (a / 128) 128 bit) (F.mul-x (a % 128) low)
-      ∙ ⊕-comm (a / 128 * F.mul 2 128) (a % 128 * 2)
+      ap (F.mul 2) (parts ∙ sym (⊕_above (a / 128) 7 (a % 128) low)) ∙ F.mul_⊕ 2 (a / 128 * 128) (a % 128)
+      ∙ ap₂ (λ (x y : ℕ). x ⊕ y) (digit_through (F.mul 2) (mul_zero F 2) (a / 128) 128 bit) (F.mul_x (a % 128) low)
+      ∙ ⊕_comm (a / 128 * F.mul 2 128) (a % 128 * 2)
 
   -- the next of the multiples of q
   pub next_multiple : (q w : ℕ) → w < 128 → F.mul q (w * 2) ≡ F.mul 2 (F.mul q w)
-  next_multiple q w h = ap (F.mul q) (sym (F.mul-x w h)) ∙ mul_left_comm F q 2 w
+  next_multiple q w h = ap (F.mul q) (sym (F.mul_x w h)) ∙ mul_left_comm F q 2 w

@@ -51,5 +51,5 @@ module _ (f sequence : ℕ → ℕ) (step : (n : ℕ) → sequence (suc n) ≡ f
       (ap f (eqb→eq e x (both_left (eqb e x) (rising f (f e) es) t) ∙ q) ∙ sym (step j)) k (le_of_suc-le-suc h)
       ∙ ap sequence (add-suc k j ∙ sym (suc-add k j))
 
-  pub rising-at : (es : List ℕ) → T (rising f (sequence 0) es) → (k : ℕ) → k < length es → get_or es k 0 ≡ sequence k
-  rising-at es t k h = rises es (sequence 0) 0 t refl k h ∙ ap sequence (add-zero k)
+  pub rising_at : (es : List ℕ) → T (rising f (sequence 0) es) → (k : ℕ) → k < length es → get_or es k 0 ≡ sequence k
+  rising_at es t k h = rises es (sequence 0) 0 t refl k h ∙ ap sequence (add-zero k)

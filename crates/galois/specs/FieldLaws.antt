@@ -6,12 +6,12 @@ use Rattle.galois.specs.Gf.{◌⊕◌}
 pub record FieldLaws : Type 0 where
   pub mul : ℕ → ℕ → ℕ
   pub inv : ℕ → ℕ
-  pub mul-lt : (a b : ℕ) → mul a b < 256
+  pub mul_lt : (a b : ℕ) → mul a b < 256
   pub mul_assoc : (a b c : ℕ) → mul (mul a b) c ≡ mul a (mul b c)
   pub mul_comm : (a b : ℕ) → mul a b ≡ mul b a
-  pub mul-⊕ : (a b c : ℕ) → mul a (b ⊕ c) ≡ mul a b ⊕ mul a c
-  pub mul-one : (a : ℕ) → a < 256 → mul a 1 ≡ a
+  pub mul_⊕ : (a b c : ℕ) → mul a (b ⊕ c) ≡ mul a b ⊕ mul a c
+  pub mul_one : (a : ℕ) → a < 256 → mul a 1 ≡ a
   -- x is 2: where no x^8 falls out, it doubles
-  pub mul-x : (a : ℕ) → a < 128 → mul 2 a ≡ a * 2
-  pub inv-lt : (a : ℕ) → inv a < 256
-  pub mul-inv : (a : ℕ) → 0 < a → a < 256 → mul a (inv a) ≡ 1
+  pub mul_x : (a : ℕ) → a < 128 → mul 2 a ≡ a * 2
+  pub inv_lt : (a : ℕ) → inv a < 256
+  pub mul_inv : (a : ℕ) → 0 < a → a < 256 → mul a (inv a) ≡ 1

@@ -2,5 +2,5 @@
 use Rattle.std.specs.Prelude.{List, [], ◌∷◌, map, ℕ}
 use Rattle.galois.specs.FieldLaws.{FieldLaws}
 
-unfoldable pub multiplesOf : FieldLaws → ℕ → List ℕ
-multiplesOf F q = map (F.mul q) (1 ∷ 2 ∷ 4 ∷ 8 ∷ 16 ∷ 32 ∷ 64 ∷ 128 ∷ [])
+unfoldable pub multiples_of : FieldLaws → ℕ → List ℕ
+multiples_of F q = map (F.mul q) (1 ∷ 2 ∷ 4 ∷ 8 ∷ 16 ∷ 32 ∷ 64 ∷ 128 ∷ [])

@@ -9,9 +9,9 @@ values_of (Byte b) = b ∷ []
 values_of ByZero = []
 
 -- zero has no inverse
-unfoldable pub inverseOf : (ℕ → ℕ) → ℕ → Quotient
-inverseOf inv zero = ByZero
-inverseOf inv (suc a) = Byte (inv (suc a))
+unfoldable pub inverse_of : (ℕ → ℕ) → ℕ → Quotient
+inverse_of inv zero = ByZero
+inverse_of inv (suc a) = Byte (inv (suc a))
 
 -- division by zero has no answer
 unfoldable pub quotient_of : (ℕ → ℕ → ℕ) → (ℕ → ℕ) → ℕ → ℕ → Quotient

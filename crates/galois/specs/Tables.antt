@@ -3,8 +3,8 @@ use Rattle.std.specs.Prelude.{◌≡◌, ℕ, ◌%◌, ◌<◌}
 use Rattle.galois.specs.Gf.{pow}
 
 -- "entry i of the latter is 3 to the power i mod 255" (g for 3)
-unfoldable pub expEntry : ℕ → ℕ → ℕ → ℕ
-expEntry p g i = pow p g (i % 255)
+unfoldable pub exp_entry : ℕ → ℕ → ℕ → ℕ
+exp_entry p g i = pow p g (i % 255)
 
 -- "For a nonzero byte, the log entry is the power below 255. The log entry of 0 is 0 and means nothing."
 pub record LogEntry (p g a l : ℕ) : Type 0 where

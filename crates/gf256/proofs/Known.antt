@@ -7,10 +7,10 @@ use lib.Dec.{T, lit<}
 use lib.ListN.{length, get_or, take}
 use Rattle.galois.specs.Gf.{xtime, times, mul, inv, product, Remainder, Inverse}
 use Rattle.galois.specs.FieldLaws.{FieldLaws}
-use Rattle.galois.proofs.Remainder.{remainder-exactly}
-use Rattle.galois.proofs.Generator.{inverse-exactly}
+use Rattle.galois.proofs.Remainder.{remainder_exactly}
+use Rattle.galois.proofs.Generator.{inverse_exactly}
 use Rattle.galois.proofs.Table.{rising, every}
-use Rattle.galois.proofs.Tables.{Tables, logged, placed, cycle, log-power, the_field}
+use Rattle.galois.proofs.Tables.{Tables, logged, placed, cycle, log_power, the_field}
 use Rattle.gf256.specs.Fips197.{polynomial, generator}
 use Rattle.gf256.proofs.Lists.{powers, logs}
 
@@ -45,11 +45,11 @@ abbrev pub fips : FieldLaws
 fips = the_field polynomial generator powers logs tables
 
 -- the product of two bytes is the remainder of their polynomial product by x^8 + x^4 + x^3 + x + 1, and no other number is
-pub fips-product : (a b r : ℕ) → a < 256 → Remainder 0x11b (product 8 a b) r ↔ (r ≡ mul polynomial a b)
-fips-product = remainder-exactly polynomial (lit< tt)
+pub fips_product : (a b r : ℕ) → a < 256 → Remainder 0x11b (product 8 a b) r ↔ (r ≡ mul polynomial a b)
+fips_product = remainder_exactly polynomial (lit< tt)
 
 -- the inverse of a nonzero byte is the one byte whose product with it is 1
-pub fips-inverse : (a b : ℕ) → 0 < a → a < 256 → Inverse polynomial a b ↔ (b ≡ inv polynomial a)
-fips-inverse =
-    inverse-exactly polynomial (lit< tt) generator (cycle polynomial generator powers logs tables) (λ a. get_or logs a 0)
-    (log-power polynomial generator powers logs tables)
+pub fips_inverse : (a b : ℕ) → 0 < a → a < 256 → Inverse polynomial a b ↔ (b ≡ inv polynomial a)
+fips_inverse =
+    inverse_exactly polynomial (lit< tt) generator (cycle polynomial generator powers logs tables) (λ a. get_or logs a 0)
+    (log_power polynomial generator powers logs tables)

@@ -2,8 +2,8 @@
 // base 3 and one of the powers of 3.
 ghost use Rattle.std.specs.Prelude.{◌≡◌, ◌<◌, eqb};
 ghost use Rattle.galois.specs.Gf.{◌⊕◌, mul, inv as inverse};
-ghost use Rattle.galois.specs.Tables.{expEntry, LogEntry};
-ghost use Rattle.galois.specs.Quotient.{inverseOf, quotient_of};
+ghost use Rattle.galois.specs.Tables.{exp_entry, LogEntry};
+ghost use Rattle.galois.specs.Quotient.{inverse_of, quotient_of};
 ghost use Rattle.gf256.specs.Fips197.{polynomial, generator};
 
 use galois::Quotient;
@@ -16,7 +16,7 @@ pub const GF256_ORDER: usize = 256;
 // Entry i of the exponent table.
 fn exp_at(i: usize) -> u8
     requires { i < 510 }
-    ensures { result ≡ expEntry polynomial generator i }
+    ensures { result ≡ exp_entry polynomial generator i }
 {
     GF256_EXP_TABLE[i]
 }
@@ -89,7 +89,7 @@ impl Gf256 {
     }
 
     pub fn inv(self) -> Quotient
-        ensures { result ≡ inverseOf (inverse polynomial) self.val }
+        ensures { result ≡ inverse_of (inverse polynomial) self.val }
     {
         let a = self.val;
         if a == 0 {

@@ -8,7 +8,7 @@ use Rattle.joiner.specs.declared.Joiner.{Joiner}
 use Rattle.joiner.specs.declared.Fed.{Fed}
 use Rattle.joiner.specs.Machine.{Feeding}
 
-pub one-fed : (𝓕 : FieldLaws) (m : Joiner) (bytes : List ℕ) {elements area out matrix matrix' block block' last last' : List ℕ} {r r' : Fed}
+pub one_fed : (𝓕 : FieldLaws) (m : Joiner) (bytes : List ℕ) {elements area out matrix matrix' block block' last last' : List ℕ} {r r' : Fed}
     → Feeding 𝓕 m bytes elements area out r matrix block last → Feeding 𝓕 m bytes elements area out r' matrix' block' last'
     → (r ≡ r') × (matrix ≡ matrix') × (block ≡ block') × (last ≡ last')
-one-fed 𝓕 m bytes x y = (x.result ∙ sym y.result, x.left ∙ sym y.left, x.block ∙ sym y.block, x.printed ∙ sym y.printed)
+one_fed 𝓕 m bytes x y = (x.result ∙ sym y.result, x.left ∙ sym y.left, x.block ∙ sym y.block, x.printed ∙ sym y.printed)

@@ -4,10 +4,10 @@ use Rattle.answers.specs.Number.{number_of}
 use Rattle.joiner.specs.declared.Fed.{Fed}
 use Rattle.joiner.specs.declared.Fed.TheVariants.{Text, Refused}
 
-unfoldable pub fedNumber : Fed → ℕ
-fedNumber (Text m n size) = 0
-fedNumber (Refused a) = number_of a
+unfoldable pub fed_number : Fed → ℕ
+fed_number (Text m n size) = 0
+fed_number (Refused a) = number_of a
 
-unfoldable pub fedValues : Fed → List ℕ
-fedValues (Text m n size) = n ∷ size ∷ []
-fedValues (Refused a) = []
+unfoldable pub fed_values : Fed → List ℕ
+fed_values (Text m n size) = n ∷ size ∷ []
+fed_values (Refused a) = []

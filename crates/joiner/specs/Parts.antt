@@ -1,14 +1,14 @@
 -- What the private functions leave: helpers of their contracts.
 use Rattle.std.specs.Prelude.{◌≡◌, List, ℕ, length}
 use Rattle.galois.specs.FieldLaws.{FieldLaws}
-use Rattle.block.specs.Refusal.{ifOk}
+use Rattle.block.specs.Refusal.{if_ok}
 use Rattle.reader.specs.declared.Came.{Came}
 use Rattle.reader.specs.declared.Then.{Then}
 use Rattle.reader.specs.Pump.{front, kept, declines, back}
 use Rattle.listing.specs.declared.join.Step.{Step}
 use Rattle.listing.specs.declared.join.Step.TheVariants as step·
 use Rattle.joiner.specs.declared.Closing.{Closing}
-use Rattle.joiner.specs.Machine.{State, joins, endingBy, foundBy, over}
+use Rattle.joiner.specs.Machine.{State, joins, ending_by, found_by, over}
 
 -- text put at the front of a buffer, n bytes of it
 pub record Front (text out : List ℕ) (n : ℕ) (last : List ℕ) : Type 0 where
@@ -18,13 +18,13 @@ pub record Front (text out : List ℕ) (n : ℕ) (last : List ℕ) : Type 0 wher
 pub record Begun (𝓕 : FieldLaws) (s : State) (came : Came) (bytes out : List ℕ) (r : Step) (matrix last : List ℕ) : Type 0 where
   pub result :
       r
-      ≡ ifOk (declines (joins 𝓕) s came) (step·.Line (kept (joins 𝓕) s came bytes).joining (length (front (joins 𝓕) s came bytes)))
+      ≡ if_ok (declines (joins 𝓕) s came) (step·.Line (kept (joins 𝓕) s came bytes).joining (length (front (joins 𝓕) s came bytes)))
       (step·.Refused (declines (joins 𝓕) s came))
-  pub left : matrix ≡ ifOk (declines (joins 𝓕) s came) (kept (joins 𝓕) s came bytes).matrix s.matrix
-  pub printed : last ≡ ifOk (declines (joins 𝓕) s came) (over (front (joins 𝓕) s came bytes) out) out
+  pub left : matrix ≡ if_ok (declines (joins 𝓕) s came) (kept (joins 𝓕) s came bytes).matrix s.matrix
+  pub printed : last ≡ if_ok (declines (joins 𝓕) s came) (over (front (joins 𝓕) s came bytes) out) out
 
 -- the field has no part in it
 pub record Closed (s : State) (then : Then) (at : ℕ) (area out : List ℕ) (r : Closing) (area' last : List ℕ) : Type 0 where
-  pub ends : r.ending ≡ endingBy s then
+  pub ends : r.ending ≡ ending_by s then
   pub says : (𝓕 : FieldLaws) → Front (back (joins 𝓕) s then at) out r.size last
-  pub block : area' ≡ over (foundBy s then) area
+  pub block : area' ≡ over (found_by s then) area

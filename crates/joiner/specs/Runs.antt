@@ -1,17 +1,17 @@
 -- The machine fed with a whole input, call by call, each call known by what `feed` ensures alone.
 use Rattle.std.specs.Prelude.{◌≡◌, List, [], ◌++◌, ℕ, suc, ◌+◌, take, drop, replicate}
 use Rattle.galois.specs.FieldLaws.{FieldLaws}
-use Rattle.stream.specs.Streams.{Stream, piece, end, stop, streamOf}
+use Rattle.stream.specs.Streams.{Stream, piece, end, stop, stream_of}
 use Rattle.reader.specs.Reading.{wanted}
 use Rattle.reader.specs.declared.Then.TheVariants as then·
 use Rattle.listing.specs.declared.join.Joining.{Joining}
-use Rattle.listing.specs.Joining.{nothing, joinedAfter, elementsAfter}
-use Rattle.listing.specs.Listing.{matrixLength}
+use Rattle.listing.specs.Joining.{nothing, joined_after, elements_after}
+use Rattle.listing.specs.Listing.{matrix_length}
 use Rattle.joiner.specs.declared.Ending.{Ending}
 use Rattle.joiner.specs.declared.Ending.TheVariants.{Stopped}
 use Rattle.joiner.specs.declared.Joiner.{Joiner}
 use Rattle.joiner.specs.declared.Fed.TheVariants.{Text}
-use Rattle.joiner.specs.Machine.{state, endingBy, foundBy, Feeding}
+use Rattle.joiner.specs.Machine.{state, ending_by, found_by, Feeding}
 
 module _ (𝓕 : FieldLaws) where
   -- in so many turns, from a machine, its matrix and its block on, with these bytes left: the machine is fed what it wants of them (fewer only where
@@ -30,10 +30,10 @@ pub record Close : Type 0 where
   pub found : List ℕ
 
 -- the same for a stream that is known whole: what recovery answers at its end record decides
-unfoldable pub closeFrom : FieldLaws → Joining → List ℕ → Stream → Close
-closeFrom 𝓕 j elements (piece g full later) = closeFrom 𝓕 (joinedAfter 𝓕 j elements g full) (elementsAfter 𝓕 j elements g full) later
-closeFrom 𝓕 j elements end = record { ending = endingBy (state j elements) then·.End; found = foundBy (state j elements) then·.End }
-closeFrom 𝓕 j elements (stop a at) = record { ending = Stopped; found = [] }
+unfoldable pub close_from : FieldLaws → Joining → List ℕ → Stream → Close
+close_from 𝓕 j elements (piece g full later) = close_from 𝓕 (joined_after 𝓕 j elements g full) (elements_after 𝓕 j elements g full) later
+close_from 𝓕 j elements end = record { ending = ending_by (state j elements) then·.End; found = found_by (state j elements) then·.End }
+close_from 𝓕 j elements (stop a at) = record { ending = Stopped; found = [] }
 
-unfoldable pub closeOf : FieldLaws → List ℕ → Close
-closeOf 𝓕 input = closeFrom 𝓕 nothing (replicate matrixLength 0) (streamOf input)
+unfoldable pub close_of : FieldLaws → List ℕ → Close
+close_of 𝓕 input = close_from 𝓕 nothing (replicate matrix_length 0) (stream_of input)

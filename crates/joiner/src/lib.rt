@@ -4,10 +4,10 @@ ghost use Rattle.std.specs.Prelude.{◌≡◌, ◌≤◌, length};
 ghost use Rattle.answers.specs.Number.{number_of};
 ghost use Rattle.field.specs.FieldOf.{field_of};
 ghost use Rattle.reader.specs.declared.Then.TheVariants as Then·;
-ghost use Rattle.reader.specs.Reading.{wanted, bodyIn};
-ghost use Rattle.listing.specs.Lines.{stopLine};
-ghost use Rattle.listing.specs.Listing.{blockRoom};
-ghost use Rattle.joiner.specs.Machine.{endRoom, textRoom, fresh, state, Feeding};
+ghost use Rattle.reader.specs.Reading.{wanted, body_in};
+ghost use Rattle.listing.specs.Lines.{stop_line};
+ghost use Rattle.listing.specs.Listing.{block_room};
+ghost use Rattle.joiner.specs.Machine.{end_room, text_room, fresh, state, Feeding};
 ghost use Rattle.joiner.specs.Parts.{Front, Begun, Closed};
 
 use answers::Answer;
@@ -128,8 +128,8 @@ fn begin(
     elements: &mut [u8],
     out: &mut [u8],
 ) -> Step
-    requires text_room_in_bounds { textRoom ≤ length out.old }
-    requires came_in_bounds { bodyIn came ≤ length input.now }
+    requires text_room_in_bounds { text_room ≤ length out.old }
+    requires came_in_bounds { body_in came ≤ length input.now }
     ensures { Begun (field_of f) (state joining elements.old) came input.now out.old result elements.new out.new }
 {
     match came {
@@ -154,8 +154,8 @@ fn close(
     data: &mut [u8],
     out: &mut [u8],
 ) -> Closing
-    requires end_room_in_bounds { endRoom ≤ length out.old }
-    requires block_room_in_bounds { blockRoom ≤ length «data».old }
+    requires end_room_in_bounds { end_room ≤ length out.old }
+    requires block_room_in_bounds { block_room ≤ length «data».old }
     ensures { Closed (state joining elements.now) «then» at «data».old out.old result «data».new out.new }
 {
     match then {
@@ -176,8 +176,8 @@ fn close(
 
 // The end record: the last lines, and the data at the front of the block.
 fn finish(joining: Joining, elements: &[u8], data: &mut [u8], out: &mut [u8]) -> Closing
-    requires end_room_in_bounds { endRoom ≤ length out.old }
-    requires block_room_in_bounds { blockRoom ≤ length «data».old }
+    requires end_room_in_bounds { end_room ≤ length out.old }
+    requires block_room_in_bounds { block_room ≤ length «data».old }
     ensures { Closed (state joining elements.now) Then·.End 0 «data».old out.old result «data».new out.new }
 {
     let room = BLOCK_LEN;
@@ -199,8 +199,8 @@ fn finish(joining: Joining, elements: &[u8], data: &mut [u8], out: &mut [u8]) ->
 
 // The line of a stop. Answers how long it is.
 fn stop(at: u64, answer: Answer, out: &mut [u8]) -> usize
-    requires { endRoom ≤ length out.old }
-    ensures { Front (stopLine (number_of answer) at) out.old result out.new }
+    requires { end_room ≤ length out.old }
+    ensures { Front (stop_line (number_of answer) at) out.old result out.new }
 {
     match listing::stop_line(out, answer, at) {
         Put::Bytes(n) => n,

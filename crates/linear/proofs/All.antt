@@ -19,9 +19,9 @@ module _ {A : Type 0} where
   pub all_tail : {P : A → Type 0} {x : A} {xs : List A} → All P (x ∷ xs) → All P xs
   all_tail (more p h) = h
 
-  pub all-imp : {P Q : A → Type 0} {xs : List A} → ((x : A) → P x → Q x) → All P xs → All Q xs
-  all-imp f none = none
-  all-imp f (more {x = x} p h) = more (f x p) (all-imp f h)
+  pub all_imp : {P Q : A → Type 0} {xs : List A} → ((x : A) → P x → Q x) → All P xs → All Q xs
+  all_imp f none = none
+  all_imp f (more {x = x} p h) = more (f x p) (all_imp f h)
 
   pub all_true : {P : A → Type 0} → ((x : A) → P x) → (xs : List A) → All P xs
   all_true f [] = none
@@ -32,48 +32,48 @@ module _ {A : Type 0} where
   all_both (more p h) k = more (p, all_head k) (all_both h (all_tail k))
 
   -- for each number below n
-  pub all-each : {P : ℕ → A → Type 0} (n : ℕ) (xs : List A) → ((j : ℕ) → j < n → All (P j) xs) → All (λ x. (j : ℕ) → j < n → P j x) xs
-  all-each n [] h = none
-  all-each n (x ∷ xs) h = more (λ j l. all_head (h j l)) (all-each n xs (λ j l. all_tail (h j l)))
+  pub all_each : {P : ℕ → A → Type 0} (n : ℕ) (xs : List A) → ((j : ℕ) → j < n → All (P j) xs) → All (λ x. (j : ℕ) → j < n → P j x) xs
+  all_each n [] h = none
+  all_each n (x ∷ xs) h = more (λ j l. all_head (h j l)) (all_each n xs (λ j l. all_tail (h j l)))
 
-  pub all-at : {P : A → Type 0} (d : A) (xs : List A) (i : ℕ) → All P xs → i < length xs → P (get_or xs i d)
-  all-at d [] i h l = absurd (not-suc-le-zero l)
-  all-at d (x ∷ xs) zero h l = all_head h
-  all-at d (x ∷ xs) (suc i) h l = all-at d xs i (all_tail h) (le_of_suc-le-suc l)
+  pub all_at : {P : A → Type 0} (d : A) (xs : List A) (i : ℕ) → All P xs → i < length xs → P (get_or xs i d)
+  all_at d [] i h l = absurd (not-suc-le-zero l)
+  all_at d (x ∷ xs) zero h l = all_head h
+  all_at d (x ∷ xs) (suc i) h l = all_at d xs i (all_tail h) (le_of_suc-le-suc l)
 
   pub all_append : {P : A → Type 0} {xs ys : List A} → All P xs → All P ys → All P (xs ++ ys)
   all_append none k = k
   all_append (more p h) k = more p (all_append h k)
 
-  pub all-append-left : {P : A → Type 0} (xs ys : List A) → All P (xs ++ ys) → All P xs
-  all-append-left [] ys h = none
-  all-append-left (x ∷ xs) ys h = more (all_head h) (all-append-left xs ys (all_tail h))
+  pub all_append_left : {P : A → Type 0} (xs ys : List A) → All P (xs ++ ys) → All P xs
+  all_append_left [] ys h = none
+  all_append_left (x ∷ xs) ys h = more (all_head h) (all_append_left xs ys (all_tail h))
 
-  pub all-append-right : {P : A → Type 0} (xs ys : List A) → All P (xs ++ ys) → All P ys
-  all-append-right [] ys h = h
-  all-append-right (x ∷ xs) ys h = all-append-right xs ys (all_tail h)
+  pub all_append_right : {P : A → Type 0} (xs ys : List A) → All P (xs ++ ys) → All P ys
+  all_append_right [] ys h = h
+  all_append_right (x ∷ xs) ys h = all_append_right xs ys (all_tail h)
 
   pub all_of_map : {P : A → Type 0} (f : A → A) (xs : List A) → All P (map f xs) → All (λ x. P (f x)) xs
   all_of_map f [] h = none
   all_of_map f (x ∷ xs) h = more (all_head h) (all_of_map f xs (all_tail h))
 
-  pub all-every : {P : A → Type 0} (d : A) (xs : List A) → P d → All P xs → Every P d xs
-  all-every d [] z h i = z
-  all-every d (x ∷ xs) z h zero = all_head h
-  all-every d (x ∷ xs) z h (suc i) = all-every d xs z (all_tail h) i
+  pub all_every : {P : A → Type 0} (d : A) (xs : List A) → P d → All P xs → Every P d xs
+  all_every d [] z h i = z
+  all_every d (x ∷ xs) z h zero = all_head h
+  all_every d (x ∷ xs) z h (suc i) = all_every d xs z (all_tail h) i
 
-  pub every-all : (P : A → Type 0) (d : A) (xs : List A) → Every P d xs → All P xs
-  every-all P d [] h = none
-  every-all P d (x ∷ xs) h = more (h 0) (every-all P d xs (λ i. h (suc i)))
+  pub every_all : (P : A → Type 0) (d : A) (xs : List A) → Every P d xs → All P xs
+  every_all P d [] h = none
+  every_all P d (x ∷ xs) h = more (h 0) (every_all P d xs (λ i. h (suc i)))
 
-pub bytes-at : (row : List ℕ) → Bytes row → (c : ℕ) → get_or row c 0 < 256
-bytes-at row h = all-every {P = λ x. x < 256} 0 row (omega arith) h
+pub bytes_at : (row : List ℕ) → Bytes row → (c : ℕ) → get_or row c 0 < 256
+bytes_at row h = all_every {P = λ x. x < 256} 0 row (omega arith) h
 
-pub zeros-bytes : (n : ℕ) → Bytes (replicate n 0)
-zeros-bytes zero = none
-zeros-bytes (suc n) = more {x = 0} (omega arith) (zeros-bytes n)
+pub zeros_bytes : (n : ℕ) → Bytes (replicate n 0)
+zeros_bytes zero = none
+zeros_bytes (suc n) = more {x = 0} (omega arith) (zeros_bytes n)
 
-pub zeros-entry : (n c : ℕ) → get_or (replicate {A = ℕ} n 0) c 0 ≡ 0
-zeros-entry zero c = refl
-zeros-entry (suc n) zero = refl
-zeros-entry (suc n) (suc c) = zeros-entry n c
+pub zeros_entry : (n c : ℕ) → get_or (replicate {A = ℕ} n 0) c 0 ≡ 0
+zeros_entry zero c = refl
+zeros_entry (suc n) zero = refl
+zeros_entry (suc n) (suc c) = zeros_entry n c

@@ -11,50 +11,50 @@ use Rattle.linear.specs.All.{All, none, more}
 use Rattle.linear.specs.Buffer.{rows_of, flat, Ruled}
 use Rattle.linear.proofs.Buffer.{put, length_part}
 
-suc-row : (f n : ℕ) → suc n * f ≡ f + n * f
-suc-row f n = suc-mul n f ∙ add_comm (n * f) f
+suc_row : (f n : ℕ) → suc n * f ≡ f + n * f
+suc_row f n = suc-mul n f ∙ add_comm (n * f) f
 
 -- the rows of a buffer, one after the other, are its front
-pub flat-front : (f n : ℕ) (b : List ℕ) → flat (rows_of f n b) ≡ take (n * f) b
+pub flat_front : (f n : ℕ) (b : List ℕ) → flat (rows_of f n b) ≡ take (n * f) b
 unfolding flat rows_of
-flat-front f zero b = ap (λ (k : ℕ). take k b) (sym (zero-mul f))
-flat-front f (suc n) b =
-    ap (λ (l : List ℕ). take f b ++ l) (flat-front f n (drop f b)) ∙ sym (take-add f (n * f) b) ∙ ap (λ (k : ℕ). take k b) (sym (suc-row f n))
+flat_front f zero b = ap (λ (k : ℕ). take k b) (sym (zero-mul f))
+flat_front f (suc n) b =
+    ap (λ (l : List ℕ). take f b ++ l) (flat_front f n (drop f b)) ∙ sym (take-add f (n * f) b) ∙ ap (λ (k : ℕ). take k b) (sym (suc_row f n))
 
-pub as-flat : {f n : ℕ} {old new : List ℕ} {want : List (List ℕ)} → Ruled f n old new want → new ≡ flat want ++ drop (n * f) old
-as-flat {f} {n} {old} {new} u =
-    sym (take-append-drop (n * f) new) ∙ (λ i. (sym (flat-front f n new) ∙ ap flat u.rows) i ++ u.rest i)
+pub as_flat : {f n : ℕ} {old new : List ℕ} {want : List (List ℕ)} → Ruled f n old new want → new ≡ flat want ++ drop (n * f) old
+as_flat {f} {n} {old} {new} u =
+    sym (take-append-drop (n * f) new) ∙ (λ i. (sym (flat_front f n new) ∙ ap flat u.rows) i ++ u.rest i)
 
 -- and the other way
-pub rows-flat : (f : ℕ) (rows : List (List ℕ)) (s : List ℕ) → All (λ r. length r ≡ f) rows → rows_of f (length rows) (flat rows ++ s) ≡ rows
+pub rows_flat : (f : ℕ) (rows : List (List ℕ)) (s : List ℕ) → All (λ r. length r ≡ f) rows → rows_of f (length rows) (flat rows ++ s) ≡ rows
 unfolding flat rows_of
-rows-flat f [] s none = refl
-rows-flat f (r ∷ rs) s (more e es) =
+rows_flat f [] s none = refl
+rows_flat f (r ∷ rs) s (more e es) =
     ap (rows_of f (suc (length rs))) (append_assoc r (flat rs) s)
     ∙ (λ i. take_at r (flat rs ++ s) f e i ∷ rows_of f (length rs) (drop_at r (flat rs ++ s) f e i))
-    ∙ ap (λ (l : List (List ℕ)). r ∷ l) (rows-flat f rs s es)
+    ∙ ap (λ (l : List (List ℕ)). r ∷ l) (rows_flat f rs s es)
 
-pub rest-flat : (f : ℕ) (rows : List (List ℕ)) (s : List ℕ) → All (λ r. length r ≡ f) rows → drop (length rows * f) (flat rows ++ s) ≡ s
+pub rest_flat : (f : ℕ) (rows : List (List ℕ)) (s : List ℕ) → All (λ r. length r ≡ f) rows → drop (length rows * f) (flat rows ++ s) ≡ s
 unfolding flat
-rest-flat f [] s none = ap (λ (k : ℕ). drop k s) (zero-mul f)
-rest-flat f (r ∷ rs) s (more e es) =
-    (λ i. drop (suc-row f (length rs) i) (append_assoc r (flat rs) s i))
-    ∙ sym (drop-drop (length rs * f) f (r ++ (flat rs ++ s))) ∙ ap (drop (length rs * f)) (drop_at r (flat rs ++ s) f e) ∙ rest-flat f rs s es
+rest_flat f [] s none = ap (λ (k : ℕ). drop k s) (zero-mul f)
+rest_flat f (r ∷ rs) s (more e es) =
+    (λ i. drop (suc_row f (length rs) i) (append_assoc r (flat rs) s i))
+    ∙ sym (drop-drop (length rs * f) f (r ++ (flat rs ++ s))) ∙ ap (drop (length rs * f)) (drop_at r (flat rs ++ s) f e) ∙ rest_flat f rs s es
 
-pub length-flat : (f : ℕ) (rows : List (List ℕ)) → All (λ r. length r ≡ f) rows → length (flat rows) ≡ length rows * f
+pub length_flat : (f : ℕ) (rows : List (List ℕ)) → All (λ r. length r ≡ f) rows → length (flat rows) ≡ length rows * f
 unfolding flat
-length-flat f [] none = sym (zero-mul f)
-length-flat f (r ∷ rs) (more e es) = length-append r (flat rs) ∙ (λ i. e i + length-flat f rs es i) ∙ sym (suc-row f (length rs))
+length_flat f [] none = sym (zero-mul f)
+length_flat f (r ∷ rs) (more e es) = length-append r (flat rs) ∙ (λ i. e i + length_flat f rs es i) ∙ sym (suc_row f (length rs))
 
-pub sizes-below : (f : ℕ) (rows : List (List ℕ)) → ((i : ℕ) → i < length rows → length (get_or rows i []) ≡ f) → All (λ r. length r ≡ f) rows
-sizes-below f [] h = none
-sizes-below f (r ∷ rs) h = more (h 0 (omega arith)) (sizes-below f rs (λ i k. h (suc i) (omega arith)))
+pub sizes_below : (f : ℕ) (rows : List (List ℕ)) → ((i : ℕ) → i < length rows → length (get_or rows i []) ≡ f) → All (λ r. length r ≡ f) rows
+sizes_below f [] h = none
+sizes_below f (r ∷ rs) h = more (h 0 (omega arith)) (sizes_below f rs (λ i k. h (suc i) (omega arith)))
 
-pub flat-ruled : (f n : ℕ) (old : List ℕ) (want : List (List ℕ)) {new : List ℕ} → length want ≡ n → All (λ r. length r ≡ f) want
+pub flat_ruled : (f n : ℕ) (old : List ℕ) (want : List (List ℕ)) {new : List ℕ} → length want ≡ n → All (λ r. length r ≡ f) want
     → new ≡ flat want ++ drop (n * f) old → Ruled f n old new want
-flat-ruled f n old want {new} l s e = record {
-  rows = ap (rows_of f n) e ∙ ap (λ (k : ℕ). rows_of f k (flat want ++ drop (n * f) old)) (sym l) ∙ rows-flat f want (drop (n * f) old) s;
-  rest = ap (drop (n * f)) e ∙ ap (λ (k : ℕ). drop (k * f) (flat want ++ drop (n * f) old)) (sym l) ∙ rest-flat f want (drop (n * f) old) s;
+flat_ruled f n old want {new} l s e = record {
+  rows = ap (rows_of f n) e ∙ ap (λ (k : ℕ). rows_of f k (flat want ++ drop (n * f) old)) (sym l) ∙ rows_flat f want (drop (n * f) old) s;
+  rest = ap (drop (n * f)) e ∙ ap (λ (k : ℕ). drop (k * f) (flat want ++ drop (n * f) old)) (sym l) ∙ rest_flat f want (drop (n * f) old) s;
 }
 
 -- what is behind stays behind
@@ -64,12 +64,12 @@ further a b x y h e =
     ap (λ (k : ℕ). drop k x) (sym s) ∙ sym (drop-drop (b - a) a x) ∙ ap (drop (b - a)) e ∙ drop-drop (b - a) a y ∙ ap (λ (k : ℕ). drop k y) s
 
 -- the rows from r up to k cleared behind the r rows wanted
-pub cleared-behind : (f k r x : ℕ) (old mid : List ℕ) {z : List ℕ} {want : List (List ℕ)} → r ≤ k → rows_of f r mid ≡ want → length want ≡ r
+pub cleared_behind : (f k r x : ℕ) (old mid : List ℕ) {z : List ℕ} {want : List (List ℕ)} → r ≤ k → rows_of f r mid ≡ want → length want ≡ r
     → drop (k * f) mid ≡ drop (k * f) old → r * f + x ≡ k * f → z ≡ replicate x 0
     → put (r * f) x z mid ≡ flat want ++ (replicate ((k - length want) * f) 0 ++ drop (k * f) old)
-cleared-behind f k r x old mid {z} {want} h w l d e q =
+cleared_behind f k r x old mid {z} {want} h w l d e q =
     let many : x ≡ (k - length want) * f = rw l (omega (arith, mul_comm (k - r) f, mul-sub f k r, mul_comm f k, mul_comm f r, mul-le-mul_right f h)) in
-    (λ i. (sym (flat-front f r mid) ∙ ap flat w) i ++ ((q ∙ ap (λ (j : ℕ). replicate j 0) many) i ++ (drop-drop x (r * f) mid ∙ ap (λ (j : ℕ). drop j mid) e ∙ d) i))
+    (λ i. (sym (flat_front f r mid) ∙ ap flat w) i ++ ((q ∙ ap (λ (j : ℕ). replicate j 0) many) i ++ (drop-drop x (r * f) mid ∙ ap (λ (j : ℕ). drop j mid) e ∙ d) i))
 
 -- a row copied over a part as long as itself
 pub copied : (f a : ℕ) {k : ℕ} (b row : List ℕ) {dst : List ℕ} → k ≡ f → a + f ≤ length b → length row ≡ f

@@ -10,13 +10,13 @@ use native.Mathlib.Omega.{arith}
 use lib.ListN.{length, get_or, replicate, length-replicate, length-append, length-map}
 use Rattle.galois.specs.Gf.{◌⊕◌}
 use Rattle.galois.specs.FieldLaws.{FieldLaws}
-use Rattle.galois.proofs.Sum.{⊕-self, ⊕-zero, ⊕-equal}
-use Rattle.galois.proofs.Field.{mul-zero, one-mul, zero-or-unit}
+use Rattle.galois.proofs.Sum.{⊕_self, ⊕_zero, ⊕_equal}
+use Rattle.galois.proofs.Field.{mul_zero, one_mul, zero_or_unit}
 use Rattle.linear.specs.All.{All, none, more, Bytes}
 use Rattle.linear.specs.Pieces.{dot}
 use Rattle.linear.specs.Blocks.{Kills, Kernel}
-use Rattle.linear.proofs.All.{all_head, all_tail, all-imp, all_true, all-append-left, all-append-right, all_of_map, zeros-bytes}
-use Rattle.linear.proofs.Dot.{dot-byte, dot-zeros, linear-step}
+use Rattle.linear.proofs.All.{all_head, all_tail, all_imp, all_true, all_append_left, all_append_right, all_of_map, zeros_bytes}
+use Rattle.linear.proofs.Dot.{dot_byte, dot_zeros, linear_step}
 
 module _ (𝓕 : FieldLaws) where
   -- s plus q times t, of any lengths
@@ -25,15 +25,15 @@ module _ (𝓕 : FieldLaws) where
   plus q (x ∷ t) [] = 𝓕.mul q x ∷ plus q t []
   plus q (x ∷ t) (y ∷ s) = (y ⊕ 𝓕.mul q x) ∷ plus q t s
 
-  dot-plus : (q : ℕ) (t s v : List ℕ) → dot 𝓕 (plus q t s) v ≡ dot 𝓕 s v ⊕ 𝓕.mul q (dot 𝓕 t v)
+  dot_plus : (q : ℕ) (t s v : List ℕ) → dot 𝓕 (plus q t s) v ≡ dot 𝓕 s v ⊕ 𝓕.mul q (dot 𝓕 t v)
   unfolding dot plus
-  dot-plus q [] s v = sym (ap (λ (x : ℕ). dot 𝓕 s v ⊕ x) (mul-zero 𝓕 q) ∙ ⊕-zero (dot 𝓕 s v))
-  dot-plus q (x ∷ t) [] [] = sym (mul-zero 𝓕 q)
-  dot-plus q (x ∷ t) [] (y ∷ v) =
-      ap₂ (λ (a b : ℕ). a ⊕ b) (𝓕.mul_assoc q x y) (dot-plus q t [] v) ∙ sym (𝓕.mul-⊕ q (𝓕.mul x y) (dot 𝓕 t v))
-  dot-plus q (x ∷ t) (z ∷ s) [] = sym (mul-zero 𝓕 q)
-  dot-plus q (x ∷ t) (z ∷ s) (y ∷ v) =
-      ap (λ (w : ℕ). 𝓕.mul (z ⊕ 𝓕.mul q x) y ⊕ w) (dot-plus q t s v) ∙ linear-step 𝓕 z q x y (dot 𝓕 s v) (dot 𝓕 t v)
+  dot_plus q [] s v = sym (ap (λ (x : ℕ). dot 𝓕 s v ⊕ x) (mul_zero 𝓕 q) ∙ ⊕_zero (dot 𝓕 s v))
+  dot_plus q (x ∷ t) [] [] = sym (mul_zero 𝓕 q)
+  dot_plus q (x ∷ t) [] (y ∷ v) =
+      ap₂ (λ (a b : ℕ). a ⊕ b) (𝓕.mul_assoc q x y) (dot_plus q t [] v) ∙ sym (𝓕.mul_⊕ q (𝓕.mul x y) (dot 𝓕 t v))
+  dot_plus q (x ∷ t) (z ∷ s) [] = sym (mul_zero 𝓕 q)
+  dot_plus q (x ∷ t) (z ∷ s) (y ∷ v) =
+      ap (λ (w : ℕ). 𝓕.mul (z ⊕ 𝓕.mul q x) y ⊕ w) (dot_plus q t s v) ∙ linear_step 𝓕 z q x y (dot 𝓕 s v) (dot 𝓕 t v)
 
   -- the first unknown put out of a row by the pivot row's t, u being the inverse of its first entry
   without : ℕ → List ℕ → List ℕ → List ℕ
@@ -46,7 +46,7 @@ module _ (𝓕 : FieldLaws) where
   within u t v [] h = refl
   within u t v (b ∷ s) h =
       let x : ℕ = 𝓕.mul (𝓕.mul b u) (dot 𝓕 t v) in
-      ap₂ (λ (y z : ℕ). y ⊕ z) (sym (𝓕.mul_assoc b u (dot 𝓕 t v))) (⊕-equal (dot 𝓕 s v) x (sym (dot-plus (𝓕.mul b u) t s v) ∙ h)) ∙ ⊕-self x
+      ap₂ (λ (y z : ℕ). y ⊕ z) (sym (𝓕.mul_assoc b u (dot 𝓕 t v))) (⊕_equal (dot 𝓕 s v) x (sym (dot_plus (𝓕.mul b u) t s v) ∙ h)) ∙ ⊕_self x
 
   -- the rows `zs` have lost a first entry that acts as zero; those of `rest` have theirs
   record Found (k : ℕ) (zs rest : List (List ℕ)) : Type 0 where
@@ -75,25 +75,25 @@ module _ (𝓕 : FieldLaws) where
     whole = w;
   }
 
-  search-pivot : (k : ℕ) → ((rows : List (List ℕ)) → length rows < k → Kernel 𝓕 k rows)
+  search_pivot : (k : ℕ) → ((rows : List (List ℕ)) → length rows < k → Kernel 𝓕 k rows)
       → (rest zs : List (List ℕ)) → length zs + length rest < suc k → Found k zs rest
   unfolding dot Kills
-  search-pivot k ih [] zs h =
+  search_pivot k ih [] zs h =
       record {
         first = 1;
         others = replicate k 0;
         size = length-replicate k 0;
         byte = omega arith;
-        bytes = zeros-bytes k;
+        bytes = zeros_bytes k;
         place = 0;
         nonzero = λ e. omega arith;
-        lost = all_true (λ z. dot-zeros 𝓕 z k) zs;
+        lost = all_true (λ z. dot_zeros 𝓕 z k) zs;
         whole = none;
       }
-  search-pivot k ih ([] ∷ rest) zs h =
-      let f : Found k zs rest = search-pivot k ih rest zs (omega arith) in
+  search_pivot k ih ([] ∷ rest) zs h =
+      let f : Found k zs rest = search_pivot k ih rest zs (omega arith) in
       found f f.lost (more refl f.whole)
-  search-pivot k ih ((a ∷ t) ∷ rest) zs h = go (zero-or-unit 𝓕 a) (search-pivot k ih rest (t ∷ zs) (omega arith))
+  search_pivot k ih ((a ∷ t) ∷ rest) zs h = go (zero_or_unit 𝓕 a) (search_pivot k ih rest (t ∷ zs) (omega arith))
     where
       go : ((b : ℕ) → b < 256 → 𝓕.mul a b ≡ 0) ⊎ ((u : ℕ) × (𝓕.mul a u ≡ 1)) → Found k (t ∷ zs) rest → Found k zs ((a ∷ t) ∷ rest)
       go (inl z) f =
@@ -106,20 +106,20 @@ module _ (𝓕 : FieldLaws) where
             first = 𝓕.mul u d;
             others = m.vector;
             size = m.size;
-            byte = 𝓕.mul-lt u d;
+            byte = 𝓕.mul_lt u d;
             bytes = m.bytes;
             place = suc m.place;
             nonzero = m.nonzero;
-            lost = all-append-left zs left m.killed;
+            lost = all_append_left zs left m.killed;
             whole = more
-                (ap (λ (x : ℕ). x ⊕ d) (sym (𝓕.mul_assoc a u d) ∙ ap (λ (x : ℕ). 𝓕.mul x d) e ∙ one-mul 𝓕 d (dot-byte 𝓕 t m.vector)) ∙ ⊕-self d)
-                (all-imp (within u t m.vector) (all_of_map (without u t) rest (all-append-right zs left m.killed)));
+                (ap (λ (x : ℕ). x ⊕ d) (sym (𝓕.mul_assoc a u d) ∙ ap (λ (x : ℕ). 𝓕.mul x d) e ∙ one_mul 𝓕 d (dot_byte 𝓕 t m.vector)) ∙ ⊕_self d)
+                (all_imp (within u t m.vector) (all_of_map (without u t) rest (all_append_right zs left m.killed)));
           }
 
   pub kernel : (k : ℕ) (rows : List (List ℕ)) → length rows < k → Kernel 𝓕 k rows
   kernel zero rows h = absurd (not-suc-le-zero h)
   kernel (suc k) rows h =
-      let f : Found k [] rows = search-pivot k (kernel k) rows [] (omega arith) in
+      let f : Found k [] rows = search_pivot k (kernel k) rows [] (omega arith) in
       record {
         vector = f.first ∷ f.others;
         size = ap suc f.size;

@@ -11,8 +11,8 @@ abbrev pub row_at : ℕ → ℕ → List ℕ → List ℕ
 row_at width i buffer = take width (drop (i * width) buffer)
 
 -- the buffer with a row in place of row i
-abbrev pub putRow : ℕ → ℕ → List ℕ → List ℕ → List ℕ
-putRow width i row buffer = take (i * width) buffer ++ (row ++ drop width (drop (i * width) buffer))
+abbrev pub put_row : ℕ → ℕ → List ℕ → List ℕ → List ℕ
+put_row width i row buffer = take (i * width) buffer ++ (row ++ drop width (drop (i * width) buffer))
 
 -- rows one after the other
 unfoldable pub flat : List (List ℕ) → List ℕ

@@ -7,6 +7,6 @@ pick true a b = a
 pick false a b = b
 
 -- the first if the number is zero, else the second
-abbrev pub ifZero {ℓ} : {A : Type ℓ} → ℕ → A → A → A
-ifZero zero a b = a
-ifZero (suc n) a b = b
+abbrev pub if_zero {ℓ} : {A : Type ℓ} → ℕ → A → A → A
+if_zero zero a b = a
+if_zero (suc n) a b = b

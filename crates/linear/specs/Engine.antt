@@ -2,14 +2,14 @@
 use Rattle.std.specs.Prelude.{◌≡◌, ◌≢◌, ◌⊎◌, List, [], ◌∷◌, ℕ, ◌+◌, ◌≤◌, ◌<◌, length, get_or}
 use Rattle.galois.specs.FieldLaws.{FieldLaws}
 use Rattle.linear.specs.All.{All}
-use Rattle.linear.specs.Rows.{entry, addMultiple, scaleRow}
+use Rattle.linear.specs.Rows.{entry, add_multiple, scale_row}
 use Rattle.linear.specs.Pieces.{Piece}
 
 -- a property of rows that sums and multiples keep
 pub record Subspace (𝓕 : FieldLaws) (P : List ℕ → Type 0) : Type 0 where
   pub nil : P []
-  pub add : (q : ℕ) (src dst : List ℕ) → P src → P dst → P (addMultiple 𝓕 q src dst)
-  pub scale : (q : ℕ) (r : List ℕ) → P r → P (scaleRow 𝓕 q r)
+  pub add : (q : ℕ) (src dst : List ℕ) → P src → P dst → P (add_multiple 𝓕 q src dst)
+  pub scale : (q : ℕ) (r : List ℕ) → P r → P (scale_row 𝓕 q r)
 
 -- the row has `width` entries, or is none: what is read behind the last row
 abbrev pub Fits : ℕ → List ℕ → Type 0
@@ -35,8 +35,8 @@ pub data Taken (step : Step) (k L : ℕ) : List (List ℕ) → List (List ℕ) �
 
 -- `Held` is what the engine itself knows of its rows
 pub record Engine (𝓕 : FieldLaws) (k L : ℕ) (step : Step) (Held : List (List ℕ) → Type 0) : Type 1 where
-  pub held-fresh : Held []
-  pub held-step : (rows : List (List ℕ)) (piece : List ℕ) → Held rows → length rows ≢ k → Piece k L piece → Held (step rows piece)
+  pub held_fresh : Held []
+  pub held_step : (rows : List (List ℕ)) (piece : List ℕ) → Held rows → length rows ≢ k → Piece k L piece → Held (step rows piece)
   pub count : (rows : List (List ℕ)) → Held rows → length rows ≤ k
   -- k rows are the identity's
   pub full : (rows : List (List ℕ)) → Held rows → length rows ≡ k → Identity k rows

@@ -3,7 +3,7 @@ use Rattle.std.specs.Prelude.{◌≡◌, List, [], ◌∷◌, ◌++◌, map, ℕ
 use Rattle.galois.specs.Gf.{◌⊕◌}
 use Rattle.galois.specs.FieldLaws.{FieldLaws}
 use Rattle.linear.specs.All.{Bytes}
-use Rattle.linear.specs.Rows.{addMultiple}
+use Rattle.linear.specs.Rows.{add_multiple}
 
 -- "A piece is k coefficients, then L payload bytes."
 pub record Piece (k L : ℕ) (piece : List ℕ) : Type 0 where
@@ -29,7 +29,7 @@ module _ (𝓕 : FieldLaws) where
   unfoldable pub combine : ℕ → List ℕ → List (List ℕ) → List ℕ
   combine n [] rows = replicate n 0
   combine n (c ∷ cs) [] = replicate n 0
-  combine n (c ∷ cs) (r ∷ rs) = addMultiple 𝓕 c r (combine n cs rs)
+  combine n (c ∷ cs) (r ∷ rs) = add_multiple 𝓕 c r (combine n cs rs)
 
   -- a coded piece: the vector, then the block's pieces combined by it
   unfoldable pub encode : ℕ → List (List ℕ) → List ℕ → List ℕ

@@ -8,36 +8,36 @@ use native.Mathlib.Omega.{arith}
 use lib.ListN.{length, get_or, take, set, length-append}
 use lib.Seq.{take-suc, length-take-le}
 use Rattle.listing.specs.Text.{digit, hex}
-use Rattle.listing.specs.Lines.{dataLine}
+use Rattle.listing.specs.Lines.{data_line}
 use Rattle.listing.specs.Puts.{Appended}
 use Rattle.listing.proofs.Putting.{one_more}
 
-pub length-hex : (bytes : List ℕ) → length (hex bytes) ≡ length bytes * 2
+pub length_hex : (bytes : List ℕ) → length (hex bytes) ≡ length bytes * 2
 unfolding hex
-length-hex [] = refl
-length-hex (b ∷ bytes) = omega (arith, length-hex bytes)
+length_hex [] = refl
+length_hex (b ∷ bytes) = omega (arith, length_hex bytes)
 
-pub length-data-line : (bytes : List ℕ) → length (dataLine bytes) ≡ length bytes * 2 + 1
-unfolding dataLine
-length-data-line bytes = omega (arith, length-hex bytes, length-append (hex bytes) (10 ∷ []))
+pub length_data_line : (bytes : List ℕ) → length (data_line bytes) ≡ length bytes * 2 + 1
+unfolding data_line
+length_data_line bytes = omega (arith, length_hex bytes, length-append (hex bytes) (10 ∷ []))
 
-hex-append : (xs ys : List ℕ) → hex (xs ++ ys) ≡ hex xs ++ hex ys
+hex_append : (xs ys : List ℕ) → hex (xs ++ ys) ≡ hex xs ++ hex ys
 unfolding hex
-hex-append [] ys = refl
-hex-append (x ∷ xs) ys = ap (λ (l : List ℕ). digit (x / 16) ∷ digit (x % 16) ∷ l) (hex-append xs ys)
+hex_append [] ys = refl
+hex_append (x ∷ xs) ys = ap (λ (l : List ℕ). digit (x / 16) ∷ digit (x % 16) ∷ l) (hex_append xs ys)
 
 module _ (bytes : List ℕ) (i : ℕ) (h : i < length bytes) where
   byte : ℕ
   byte = get_or bytes i 0
 
-  hex-more : hex (take (i + 1) bytes) ≡ (hex (take i bytes) ++ (digit (byte / 16) ∷ [])) ++ (digit (byte % 16) ∷ [])
+  hex_more : hex (take (i + 1) bytes) ≡ (hex (take i bytes) ++ (digit (byte / 16) ∷ [])) ++ (digit (byte % 16) ∷ [])
   unfolding hex byte
-  hex-more =
-      ap (λ (n : ℕ). hex (take n bytes)) (add-one i) ∙ ap hex (take-suc bytes i 0 h) ∙ hex-append (take i bytes) (get_or bytes i 0 ∷ [])
+  hex_more =
+      ap (λ (n : ℕ). hex (take n bytes)) (add-one i) ∙ ap hex (take-suc bytes i 0 h) ∙ hex_append (take i bytes) (get_or bytes i 0 ∷ [])
       ∙ sym (append_assoc (hex (take i bytes)) (digit (byte / 16) ∷ []) (digit (byte % 16) ∷ []))
 
   pub place : {out now : List ℕ} {at : ℕ} → Appended (hex (take i bytes)) out 0 at now → at ≡ i * 2
-  place a = omega (arith, a.ends, length-hex (take i bytes), length-take-le i bytes (omega arith))
+  place a = omega (arith, a.ends, length_hex (take i bytes), length-take-le i bytes (omega arith))
 
   pub turn : {out now : List ℕ} {at high low : ℕ} → Appended (hex (take i bytes)) out 0 at now → length bytes * 2 ≤ length out
       → high ≡ digit (get_or bytes i 0 / 16) → low ≡ digit (get_or bytes i 0 % 16)
@@ -47,5 +47,5 @@ module _ (bytes : List ℕ) (i : ℕ) (h : i < length bytes) where
       let e = place a in
       let two = one_more low (one_more high a (omega arith)) (omega arith) in
       subst (λ (t : List ℕ). Appended t out 0 (at + 2) (set (set now at high) (at + 1) low))
-      (sym (hex-more ∙ (λ j. (hex (take i bytes) ++ (sym p j ∷ [])) ++ (sym q j ∷ []))))
+      (sym (hex_more ∙ (λ j. (hex (take i bytes) ++ (sym p j ∷ [])) ++ (sym q j ∷ []))))
       (subst (λ (n : ℕ). Appended ((hex (take i bytes) ++ (high ∷ [])) ++ (low ∷ [])) out 0 n (set (set now at high) (at + 1) low)) (omega arith) two)

@@ -13,14 +13,14 @@ use Rattle.listing.specs.declared.join.End.{End}
 use Rattle.listing.specs.Puts.{Lined}
 use Rattle.listing.specs.Steps.{Stepped, Finished}
 
-pub one-lined : {line out last last' : List ℕ} {r r' : Put} → Lined line out r last → Lined line out r' last' → (r ≡ r') × (last ≡ last')
-one-lined x y = (x.result ∙ sym y.result, x.left ∙ sym y.left)
+pub one_lined : {line out last last' : List ℕ} {r r' : Put} → Lined line out r last → Lined line out r' last' → (r ≡ r') × (last ≡ last')
+one_lined x y = (x.result ∙ sym y.result, x.left ∙ sym y.left)
 
-pub one-stepped : {𝓕 : FieldLaws} {j : Joining} {g : Geometry} {full elements out matrix matrix' text text' : List ℕ} {r r' : Step}
+pub one_stepped : {𝓕 : FieldLaws} {j : Joining} {g : Geometry} {full elements out matrix matrix' text text' : List ℕ} {r r' : Step}
     → Stepped 𝓕 j g full elements out r matrix text → Stepped 𝓕 j g full elements out r' matrix' text'
     → (r ≡ r') × (matrix ≡ matrix') × (text ≡ text')
-one-stepped x y = (x.result ∙ sym y.result, x.left ∙ sym y.left, x.printed ∙ sym y.printed)
+one_stepped x y = (x.result ∙ sym y.result, x.left ∙ sym y.left, x.printed ∙ sym y.printed)
 
-pub one-finished : {j : Joining} {elements area out kept kept' text text' : List ℕ} {r r' : End} → Finished j elements area out r kept text
+pub one_finished : {j : Joining} {elements area out kept kept' text text' : List ℕ} {r r' : End} → Finished j elements area out r kept text
     → Finished j elements area out r' kept' text' → (r ≡ r') × (kept ≡ kept') × (text ≡ text')
-one-finished x y = (x.result ∙ sym y.result, x.left ∙ sym y.left, x.printed ∙ sym y.printed)
+one_finished x y = (x.result ∙ sym y.result, x.left ∙ sym y.left, x.printed ∙ sym y.printed)

@@ -12,7 +12,7 @@ use Rattle.listing.specs.declared.Put.{Put}
 use Rattle.listing.specs.declared.Put.TheVariants.{Bytes, Refused}
 use Rattle.listing.specs.Puts.{Lined}
 use Rattle.listing.proofs.Putting.{placed}
-use Rattle.listing.proofs.Counting.{put-text, put-size, put_whole}
+use Rattle.listing.proofs.Counting.{put_text, put_size, put_whole}
 
 module _ {first out last : List ℕ} {r : Put} {end : ℕ} (second : List ℕ) (l : Lined first out r last)
     (h : length first + length second ≤ length out) (e : r ≡ Bytes end) where
@@ -20,11 +20,11 @@ module _ {first out last : List ℕ} {r : Put} {end : ℕ} (second : List ℕ) (
   rest = drop (length first) out
 
   begun : end ≡ length first
-  begun = put-size l (omega arith) end e
+  begun = put_size l (omega arith) end e
 
   text : last ≡ first ++ rest
   unfolding rest
-  text = put-text l (omega arith)
+  text = put_text l (omega arith)
 
   left : length rest ≡ length out - length first
   unfolding rest
@@ -47,16 +47,16 @@ module _ {first out last : List ℕ} {r : Put} {end : ℕ} (second : List ℕ) (
     whole : Lined second rest r' last'
     whole = subst (λ (x : List ℕ). Lined second x r' last') part l'
 
-    pub never-refused : (a : Answer) → r' ≡ Refused a → ⊥
-    never-refused a e' = put_whole whole room a e'
+    pub never_refused : (a : Answer) → r' ≡ Refused a → ⊥
+    never_refused a e' = put_whole whole room a e'
 
     pub sum_is : (size : ℕ) → r' ≡ Bytes size → end + size ≡ length first + length second
-    sum_is size e' = omega (arith, begun, put-size whole room size e')
+    sum_is size e' = omega (arith, begun, put_size whole room size e')
 
-    pub two-lines : (size : ℕ) → r' ≡ Bytes size → Lined (first ++ second) out (Bytes (end + size)) (put_mid end (length last - end) last last')
+    pub two_lines : (size : ℕ) → r' ≡ Bytes size → Lined (first ++ second) out (Bytes (end + size)) (put_mid end (length last - end) last last')
     unfolding rest
-    two-lines size e' =
+    two_lines size e' =
         placed (omega (arith, length-append first second)) (sum_is size e' ∙ sym (length-append first second))
-        ((λ i. take (begun i) (text i) ++ (put-text whole room i ++ drop (length last - end) (behind i)))
+        ((λ i. take (begun i) (text i) ++ (put_text whole room i ++ drop (length last - end) (behind i)))
         ∙ (λ i. take-append_seam first rest i ++ ((second ++ drop-drop (length second) (length first) out i) ++ drop_of_length-le rest {i = length last - end} (omega (arith, begun, long)) i))
         ∙ simp (append-nil, append_assoc, sum_is size e'))

@@ -9,28 +9,28 @@ use Rattle.listing.specs.declared.join.Step.TheVariants as step
 use Rattle.listing.specs.declared.join.End.{End}
 use Rattle.listing.specs.declared.join.End.TheVariants as end
 
-unfoldable pub putNumber : Put → ℕ
-putNumber (put.Bytes n) = 0
-putNumber (put.Refused a) = number_of a
+unfoldable pub put_number : Put → ℕ
+put_number (put.Bytes n) = 0
+put_number (put.Refused a) = number_of a
 
-unfoldable pub putValues : Put → List ℕ
-putValues (put.Bytes n) = n ∷ []
-putValues (put.Refused a) = []
+unfoldable pub put_values : Put → List ℕ
+put_values (put.Bytes n) = n ∷ []
+put_values (put.Refused a) = []
 
-unfoldable pub stepNumber : Step → ℕ
-stepNumber (step.Line j n) = 0
-stepNumber (step.Refused a) = number_of a
+unfoldable pub step_number : Step → ℕ
+step_number (step.Line j n) = 0
+step_number (step.Refused a) = number_of a
 
-unfoldable pub stepValues : Step → List ℕ
-stepValues (step.Line j n) = j.pieces ∷ j.repeats ∷ n ∷ []
-stepValues (step.Refused a) = []
+unfoldable pub step_values : Step → List ℕ
+step_values (step.Line j n) = j.pieces ∷ j.repeats ∷ n ∷ []
+step_values (step.Refused a) = []
 
-unfoldable pub endNumber : End → ℕ
-endNumber (end.Data n text) = 0
-endNumber (end.Alone text) = 0
-endNumber (end.Refused a) = number_of a
+unfoldable pub end_number : End → ℕ
+end_number (end.Data n text) = 0
+end_number (end.Alone text) = 0
+end_number (end.Refused a) = number_of a
 
-unfoldable pub endValues : End → List ℕ
-endValues (end.Data n text) = n ∷ text ∷ []
-endValues (end.Alone text) = 0 ∷ text ∷ []
-endValues (end.Refused a) = []
+unfoldable pub end_values : End → List ℕ
+end_values (end.Data n text) = n ∷ text ∷ []
+end_values (end.Alone text) = 0 ∷ text ∷ []
+end_values (end.Refused a) = []

@@ -5,26 +5,26 @@ use Rattle.linear.specs.Choice.{pick}
 use Rattle.stream.specs.declared.Geometry.{Geometry}
 use Rattle.stream.specs.Geometries.{pieces_of, length_of, body_of}
 use Rattle.decoder.specs.declared.Decoder.{Decoder}
-use Rattle.decoder.specs.Records.{rowsIn, takenBy}
-use Rattle.decoder.specs.Entries.{decoderOf}
-use Rattle.decoder.specs.Calls.{numberNext, recordNext, bufferNext}
+use Rattle.decoder.specs.Records.{rows_in, taken_by}
+use Rattle.decoder.specs.Entries.{decoder_of}
+use Rattle.decoder.specs.Calls.{number_next, record_next, buffer_next}
 use Rattle.listing.specs.declared.join.Held.{Held}
 use Rattle.listing.specs.declared.join.Held.TheVariants as held
 use Rattle.listing.specs.declared.join.Joining.{Joining}
-use Rattle.listing.specs.Lines.{pieceLine}
+use Rattle.listing.specs.Lines.{piece_line}
 
 -- before the first piece
 abbrev pub nothing : Joining
 nothing = record { held = held.Nothing; pieces = 0; repeats = 0 }
 
 -- the first piece makes the decoder of its geometry
-unfoldable pub decoderFor : Geometry → Held → Decoder
-decoderFor g held.Nothing = decoderOf (pieces_of g) (length_of g) 0 0
-decoderFor g (held.Of d) = d
+unfoldable pub decoder_for : Geometry → Held → Decoder
+decoder_for g held.Nothing = decoder_of (pieces_of g) (length_of g) 0 0
+decoder_for g (held.Of d) = d
 
-unfoldable pub matrixFor : Geometry → Held → List ℕ → List ℕ
-matrixFor g held.Nothing elements = replicate (pieces_of g * body_of g) 0 ++ drop (pieces_of g * body_of g) elements
-matrixFor g (held.Of d) elements = elements
+unfoldable pub matrix_for : Geometry → Held → List ℕ → List ℕ
+matrix_for g held.Nothing elements = replicate (pieces_of g * body_of g) 0 ++ drop (pieces_of g * body_of g) elements
+matrix_for g (held.Of d) elements = elements
 
 -- a piece got this answer, and the decoder after it is d. "Repeats is the number of answers 8"
 unfoldable pub joined : Joining → Decoder → ℕ → Joining
@@ -32,20 +32,20 @@ joined j d answer = record { held = held.Of d; pieces = j.pieces + 1; repeats = 
 
 -- its line: "ordinal, answer, rows and taken after it"
 unfoldable pub line_of : Joining → Decoder → ℕ → List ℕ
-line_of j d answer = pieceLine (j.pieces + 1) answer (rowsIn d) (takenBy d)
+line_of j d answer = piece_line (j.pieces + 1) answer (rows_in d) (taken_by d)
 
 module _ (𝓕 : FieldLaws) (j : Joining) (elements : List ℕ) (g : Geometry) (full : List ℕ) where
-  unfoldable pub answerTo : ℕ
-  answerTo = numberNext 𝓕 (decoderFor g j.held) (matrixFor g j.held elements) full
+  unfoldable pub answer_to : ℕ
+  answer_to = number_next 𝓕 (decoder_for g j.held) (matrix_for g j.held elements) full
 
-  unfoldable pub decoderAfter : Decoder
-  decoderAfter = recordNext 𝓕 (decoderFor g j.held) (matrixFor g j.held elements) full
+  unfoldable pub decoder_after : Decoder
+  decoder_after = record_next 𝓕 (decoder_for g j.held) (matrix_for g j.held elements) full
 
-  unfoldable pub elementsAfter : List ℕ
-  elementsAfter = bufferNext 𝓕 (decoderFor g j.held) (matrixFor g j.held elements) full
+  unfoldable pub elements_after : List ℕ
+  elements_after = buffer_next 𝓕 (decoder_for g j.held) (matrix_for g j.held elements) full
 
-  unfoldable pub joinedAfter : Joining
-  joinedAfter = joined j decoderAfter answerTo
+  unfoldable pub joined_after : Joining
+  joined_after = joined j decoder_after answer_to
 
   unfoldable pub line_for : List ℕ
-  line_for = line_of j decoderAfter answerTo
+  line_for = line_of j decoder_after answer_to

@@ -5,13 +5,13 @@ use Rattle.answers.specs.declared.Answer.{Answer}
 use Rattle.answers.specs.declared.Answer.TheVariants.{Ok, NoRoom, BadState}
 use Rattle.galois.specs.FieldLaws.{FieldLaws}
 use Rattle.linear.specs.Choice.{pick}
-use Rattle.block.specs.Refusal.{ifOk}
+use Rattle.block.specs.Refusal.{if_ok}
 use Rattle.stream.specs.declared.Geometry.{Geometry}
 use Rattle.stream.specs.Geometries.{pieces_of, length_of}
 use Rattle.stream.specs.Streams.{largest}
 use Rattle.decoder.specs.declared.Decoder.{Decoder}
-use Rattle.decoder.specs.Entries.{newRefusal}
-use Rattle.decoder.specs.Calls.{numberNext, recordNext, bufferNext}
+use Rattle.decoder.specs.Entries.{new_refusal}
+use Rattle.decoder.specs.Calls.{number_next, record_next, buffer_next}
 use Rattle.listing.specs.declared.Put.{Put}
 use Rattle.listing.specs.declared.Put.TheVariants as put
 use Rattle.listing.specs.declared.join.Held.{Held}
@@ -21,26 +21,26 @@ use Rattle.listing.specs.declared.join.Step.{Step}
 use Rattle.listing.specs.declared.join.Step.TheVariants.{Line, Refused}
 use Rattle.listing.specs.declared.join.End.{End}
 use Rattle.listing.specs.declared.join.End.TheVariants as end
-use Rattle.listing.specs.Joining.{joined, line_of, joinedAfter, elementsAfter, line_for}
-use Rattle.listing.specs.Listing.{endAnswer, data_of, endLines}
+use Rattle.listing.specs.Joining.{joined, line_of, joined_after, elements_after, line_for}
+use Rattle.listing.specs.Listing.{end_answer, data_of, end_lines}
 
 -- the longest line of a piece
-abbrev pub lineRoom : ℕ
-lineRoom = 84
+abbrev pub line_room : ℕ
+line_room = 84
 
 -- the first piece asks for the matrix of a new decoder
-unfoldable pub startRefusal : Held → Geometry → ℕ → Answer
-startRefusal held.Nothing g room = newRefusal (length_of g) (pieces_of g) room
-startRefusal (held.Of d) g room = Ok
+unfoldable pub start_refusal : Held → Geometry → ℕ → Answer
+start_refusal held.Nothing g room = new_refusal (length_of g) (pieces_of g) room
+start_refusal (held.Of d) g room = Ok
 
 -- a piece, with a matrix and an output of these lengths: 21 for an output below the longest line; 22 for more repeats than pieces, or where
 -- no number is left for one piece more
-unfoldable pub stepRefusal : Joining → Geometry → ℕ → ℕ → Answer
-stepRefusal j g room out =
-    pick (ltb out lineRoom) NoRoom
+unfoldable pub step_refusal : Joining → Geometry → ℕ → ℕ → Answer
+step_refusal j g room out =
+    pick (ltb out line_room) NoRoom
     (pick (ltb j.pieces j.repeats) BadState
     (pick (leb largest j.pieces) BadState
-    (startRefusal j.held g room)))
+    (start_refusal j.held g room)))
 
 -- a piece taken, refused or a repeat, once its answer is known
 pub record Counted (j : Joining) (d : Decoder) (answer : Answer) (out : List ℕ) (r : Step) (last : List ℕ) : Type 0 where
@@ -51,50 +51,50 @@ pub record Counted (j : Joining) (d : Decoder) (answer : Answer) (out : List ℕ
 pub record Took (𝓕 : FieldLaws) (j : Joining) (d : Decoder) (full elements out : List ℕ) (r : Step) (matrix text : List ℕ) : Type 0 where
   pub result :
       r
-      ≡ Line (joined j (recordNext 𝓕 d elements full) (numberNext 𝓕 d elements full))
-      (length (line_of j (recordNext 𝓕 d elements full) (numberNext 𝓕 d elements full)))
-  pub left : matrix ≡ bufferNext 𝓕 d elements full
+      ≡ Line (joined j (record_next 𝓕 d elements full) (number_next 𝓕 d elements full))
+      (length (line_of j (record_next 𝓕 d elements full) (number_next 𝓕 d elements full)))
+  pub left : matrix ≡ buffer_next 𝓕 d elements full
   pub printed :
       text
-      ≡ line_of j (recordNext 𝓕 d elements full) (numberNext 𝓕 d elements full)
-      ++ drop (length (line_of j (recordNext 𝓕 d elements full) (numberNext 𝓕 d elements full))) out
+      ≡ line_of j (record_next 𝓕 d elements full) (number_next 𝓕 d elements full)
+      ++ drop (length (line_of j (record_next 𝓕 d elements full) (number_next 𝓕 d elements full))) out
 
 pub record Stepped (𝓕 : FieldLaws) (j : Joining) (g : Geometry) (full elements out : List ℕ) (r : Step) (matrix text : List ℕ) : Type 0 where
   pub result :
       r
-      ≡ ifOk (stepRefusal j g (length elements) (length out)) (Line (joinedAfter 𝓕 j elements g full) (length (line_for 𝓕 j elements g full)))
-      (Refused (stepRefusal j g (length elements) (length out)))
-  pub left : matrix ≡ ifOk (stepRefusal j g (length elements) (length out)) (elementsAfter 𝓕 j elements g full) elements
+      ≡ if_ok (step_refusal j g (length elements) (length out)) (Line (joined_after 𝓕 j elements g full) (length (line_for 𝓕 j elements g full)))
+      (Refused (step_refusal j g (length elements) (length out)))
+  pub left : matrix ≡ if_ok (step_refusal j g (length elements) (length out)) (elements_after 𝓕 j elements g full) elements
   pub printed :
       text
-      ≡ ifOk (stepRefusal j g (length elements) (length out)) (line_for 𝓕 j elements g full ++ drop (length (line_for 𝓕 j elements g full)) out) out
+      ≡ if_ok (step_refusal j g (length elements) (length out)) (line_for 𝓕 j elements g full ++ drop (length (line_for 𝓕 j elements g full)) out) out
 
 -- the end, with room for so many bytes of data: 21 for an output below the longest line and a line of the data
-unfoldable pub endRefusal : ℕ → ℕ → Answer
-endRefusal room out = pick (ltb out (lineRoom + (room * 2 + 1))) NoRoom Ok
+unfoldable pub end_refusal : ℕ → ℕ → Answer
+end_refusal room out = pick (ltb out (line_room + (room * 2 + 1))) NoRoom Ok
 
 -- the end line alone, and the end line with a line of so many bytes of data
-unfoldable pub aloneOf : Put → End
-aloneOf (put.Bytes n) = end.Alone n
-aloneOf (put.Refused a) = end.Refused a
+unfoldable pub alone_of : Put → End
+alone_of (put.Bytes n) = end.Alone n
+alone_of (put.Refused a) = end.Refused a
 
-unfoldable pub withData : ℕ → Put → End
-withData size (put.Bytes n) = end.Data size n
-withData size (put.Refused a) = end.Refused a
+unfoldable pub with_data : ℕ → Put → End
+with_data size (put.Bytes n) = end.Data size n
+with_data size (put.Refused a) = end.Refused a
 
 -- the lines of the end; the data stand where recovery writes them
 pub record Finished (j : Joining) (elements area out : List ℕ) (r : End) (kept text : List ℕ) : Type 0 where
   pub result :
       r
-      ≡ ifOk (endRefusal (length area) (length out))
-      (ifOk (endAnswer j.held elements (length area)) (end.Data (length (data_of j.held elements)) (length (endLines j elements (length area))))
-      (end.Alone (length (endLines j elements (length area)))))
-      (end.Refused (endRefusal (length area) (length out)))
+      ≡ if_ok (end_refusal (length area) (length out))
+      (if_ok (end_answer j.held elements (length area)) (end.Data (length (data_of j.held elements)) (length (end_lines j elements (length area))))
+      (end.Alone (length (end_lines j elements (length area)))))
+      (end.Refused (end_refusal (length area) (length out)))
   pub left :
       kept
-      ≡ ifOk (endRefusal (length area) (length out))
-      (ifOk (endAnswer j.held elements (length area)) (data_of j.held elements ++ drop (length (data_of j.held elements)) area) area) area
+      ≡ if_ok (end_refusal (length area) (length out))
+      (if_ok (end_answer j.held elements (length area)) (data_of j.held elements ++ drop (length (data_of j.held elements)) area) area) area
   pub printed :
       text
-      ≡ ifOk (endRefusal (length area) (length out))
-      (endLines j elements (length area) ++ drop (length (endLines j elements (length area))) out) out
+      ≡ if_ok (end_refusal (length area) (length out))
+      (end_lines j elements (length area) ++ drop (length (end_lines j elements (length area))) out) out

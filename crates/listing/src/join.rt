@@ -3,7 +3,7 @@
 ghost use Rattle.std.specs.Prelude.{◌≡◌, ◌≤◌, ◌<◌, length};
 ghost use Rattle.field.specs.FieldOf.{field_of};
 ghost use Rattle.listing.specs.Joining.{nothing};
-ghost use Rattle.listing.specs.Steps.{Counted, Took, Stepped, aloneOf, withData, Finished};
+ghost use Rattle.listing.specs.Steps.{Counted, Took, Stepped, alone_of, with_data, Finished};
 
 use crate::{LINE_LEN, Put};
 use answers::Answer;
@@ -153,7 +153,7 @@ impl Joining {
 }
 
 fn alone(text: Put) -> End
-    ensures { result ≡ aloneOf text }
+    ensures { result ≡ alone_of text }
 {
     match text {
         Put::Bytes(n) => End::Alone(n),
@@ -162,7 +162,7 @@ fn alone(text: Put) -> End
 }
 
 fn with_data(size: usize, text: Put) -> End
-    ensures { result ≡ withData size text }
+    ensures { result ≡ with_data size text }
 {
     match text {
         Put::Bytes(n) => End::Data(size, n),

@@ -1,7 +1,7 @@
 // The text that `setjoin` prints: its lines, each put at the front of a lent buffer.
 ghost use Rattle.std.specs.Prelude.{◌++◌, ◌+◌, ◌*◌, ◌≤◌, length};
 ghost use Rattle.answers.specs.Number.{number_of};
-ghost use Rattle.listing.specs.Lines.{headerLine, pieceLine, endLine, stopLine, dataLine};
+ghost use Rattle.listing.specs.Lines.{header_line, piece_line, end_line, stop_line, data_line};
 ghost use Rattle.listing.specs.Puts.{Lined};
 
 use answers::Answer;
@@ -31,7 +31,7 @@ fn put_line(line: &[u8], out: &mut [u8]) -> Put
 }
 
 pub fn header_line(out: &mut [u8]) -> Put
-    ensures { Lined headerLine out.old result out.new }
+    ensures { Lined header_line out.old result out.new }
 {
     put_line(b"n answer rows taken\n", out)
 }
@@ -44,7 +44,7 @@ pub fn piece_line(
     rows: UsefulPieceCount,
     taken: ReceivedPieceCount,
 ) -> Put
-    ensures { Lined (pieceLine n (number_of answer) rows.0 taken.0) out.old result out.new }
+    ensures { Lined (piece_line n (number_of answer) rows.0 taken.0) out.old result out.new }
 {
     let mut line = [0u8; LINE_LEN];
     let at = text::put_number(&mut line, 0, n, b' ');
@@ -56,7 +56,7 @@ pub fn piece_line(
 
 // The line of the end record: recovery's answer, how many bytes of data there are, and the number of answers 8.
 pub fn end_line(out: &mut [u8], answer: Answer, size: usize, repeats: u64) -> Put
-    ensures { Lined (endLine (number_of answer) size repeats) out.old result out.new }
+    ensures { Lined (end_line (number_of answer) size repeats) out.old result out.new }
 {
     let mut line = [0u8; LINE_LEN];
     let at = bytes::copy(b"end ", &mut line);
@@ -68,7 +68,7 @@ pub fn end_line(out: &mut [u8], answer: Answer, size: usize, repeats: u64) -> Pu
 
 // The line of a stream that stops: the answer, and the byte offset of the record that got it.
 pub fn stop_line(out: &mut [u8], answer: Answer, at: u64) -> Put
-    ensures { Lined (stopLine (number_of answer) at) out.old result out.new }
+    ensures { Lined (stop_line (number_of answer) at) out.old result out.new }
 {
     let mut line = [0u8; LINE_LEN];
     let end = bytes::copy(b"stop ", &mut line);
@@ -79,7 +79,7 @@ pub fn stop_line(out: &mut [u8], answer: Answer, at: u64) -> Put
 
 // The data in lower-case hexadecimal.
 pub fn data_line(out: &mut [u8], data: &[u8]) -> Put
-    ensures { Lined (dataLine «data».now) out.old result out.new }
+    ensures { Lined (data_line «data».now) out.old result out.new }
 {
     if out.len() == 0 {
         return Put::Refused(Answer::NoRoom);
@@ -95,7 +95,7 @@ pub fn data_line(out: &mut [u8], data: &[u8]) -> Put
 // The end line of a set that was recovered, and the line of its data.
 pub(crate) fn data_lines(out: &mut [u8], data: &[u8], repeats: u64) -> Put
     requires { 84 + (length «data».now * 2 + 1) ≤ length out.old }
-    ensures { Lined (endLine 0 (length «data».now) repeats ++ dataLine «data».now) out.old result out.new }
+    ensures { Lined (end_line 0 (length «data».now) repeats ++ data_line «data».now) out.old result out.new }
 {
     let Put::Bytes(end) = end_line(out, Answer::Ok, data.len(), repeats) else {
         return Put::Refused(Answer::NoRoom);

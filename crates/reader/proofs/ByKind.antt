@@ -12,10 +12,10 @@ use Rattle.stream.specs.declared.Geometry.{Geometry}
 use Rattle.stream.specs.declared.Seen.{Seen}
 use Rattle.stream.specs.declared.Record.{Record}
 use Rattle.stream.specs.declared.Record.TheVariants.{Piece, End, Refused}
-use Rattle.stream.specs.Geometries.{body_of, geometryOf}
-use Rattle.stream.specs.Records.{fitsIn, pieceRecord, kindRecord}
+use Rattle.stream.specs.Geometries.{body_of, geometry_of}
+use Rattle.stream.specs.Records.{fits_in, piece_record, kind_record}
 use Rattle.reader.specs.Reading.{longest}
-use Rattle.reader.proofs.Reading.{body-short}
+use Rattle.reader.proofs.Reading.{body_short}
 
 -- a record that was opened, once so many bytes are known to stand behind its kind
 abbrev pub cut_to : ℕ → Record → Record
@@ -23,19 +23,19 @@ cut_to b (Piece g) = pick (ltb b (body_of g)) (Refused CutRecord) (Piece g)
 cut_to b End = End
 cut_to b (Refused a) = Refused a
 
-pub by_kind : (so_far : Seen) (kind b : ℕ) → kindRecord so_far kind b ≡ cut_to b (kindRecord so_far kind longest)
-unfolding kindRecord pieceRecord
-by_kind so_far kind b = go (eqb kind 0x01) (geometryOf kind)
+pub by_kind : (so_far : Seen) (kind b : ℕ) → kind_record so_far kind b ≡ cut_to b (kind_record so_far kind longest)
+unfolding kind_record piece_record
+by_kind so_far kind b = go (eqb kind 0x01) (geometry_of kind)
   where
     fit : (g : Geometry) → pick (ltb longest (body_of g)) (Refused CutRecord) (Piece g) ≡ Piece g
-    fit g = ap (λ (t : Bool). pick t (Refused CutRecord) (Piece g)) (le-ltb longest (body_of g) (body-short g))
+    fit g = ap (λ (t : Bool). pick t (Refused CutRecord) (Piece g)) (le-ltb longest (body_of g) (body_short g))
 
     fitting : (g : Geometry) (fits : Bool) → pick (not fits) (Refused MixedKinds) (pick (ltb b (body_of g)) (Refused CutRecord) (Piece g))
         ≡ cut_to b (pick (not fits) (Refused MixedKinds) (pick (ltb longest (body_of g)) (Refused CutRecord) (Piece g)))
     fitting g true = sym (ap (cut_to b) (fit g))
     fitting g false = refl
 
-    go : (t : Bool) (o : Option Geometry) → pick t End (pieceRecord so_far b o) ≡ cut_to b (pick t End (pieceRecord so_far longest o))
+    go : (t : Bool) (o : Option Geometry) → pick t End (piece_record so_far b o) ≡ cut_to b (pick t End (piece_record so_far longest o))
     go true o = refl
     go false none = refl
-    go false (some g) = fitting g (fitsIn so_far g)
+    go false (some g) = fitting g (fits_in so_far g)

@@ -15,16 +15,16 @@ use lib.Seq.{take-take, drop-drop}
 use Rattle.answers.specs.Number.{number_of}
 use Rattle.answers.specs.declared.Answer.{Answer}
 use Rattle.answers.specs.declared.Answer.TheVariants.{CutRecord}
-use Rattle.linear.specs.Choice.{pick, ifZero}
+use Rattle.linear.specs.Choice.{pick, if_zero}
 use Rattle.stream.specs.declared.Geometry.{Geometry}
 use Rattle.stream.specs.declared.Seen.{Seen}
 use Rattle.stream.specs.declared.Seen.TheVariants as seen·
 use Rattle.stream.specs.declared.Record.{Record}
 use Rattle.stream.specs.declared.Record.TheVariants as record·
 use Rattle.stream.specs.Geometries.{body_of}
-use Rattle.stream.specs.Records.{kindRecord, recordAt}
-use Rattle.stream.specs.Streams.{largest, streamFrom, streamOf}
-use Rattle.stream.proofs.Streams.{from-piece, from_end, from-refused}
+use Rattle.stream.specs.Records.{kind_record, record_at}
+use Rattle.stream.specs.Streams.{largest, stream_from, stream_of}
+use Rattle.stream.proofs.Streams.{from_piece, from_end, from_refused}
 use Rattle.reader.specs.declared.Place.{Place}
 use Rattle.reader.specs.declared.Place.TheVariants as place·
 use Rattle.reader.specs.declared.Reader.{Reader}
@@ -33,54 +33,54 @@ use Rattle.reader.specs.declared.Came.TheVariants as came·
 use Rattle.reader.specs.declared.Then.{Then}
 use Rattle.reader.specs.declared.Then.TheVariants as then·
 use Rattle.reader.specs.declared.Progress.TheVariants.{Of}
-use Rattle.reader.specs.Reading.{longest, started, wanted, openedBy, placeBy, thenBy, on, brings, progress}
-use Rattle.reader.specs.Pump.{Program, saysFrom, front, kept, declines, back, turnBy, pumpedFrom}
-use Rattle.reader.proofs.Reading.{place-decides}
+use Rattle.reader.specs.Reading.{longest, started, wanted, opened_by, place_by, then_by, on, brings, progress}
+use Rattle.reader.specs.Pump.{Program, says_from, front, kept, declines, back, turn_by, pumped_from}
+use Rattle.reader.proofs.Reading.{place_decides}
 use Rattle.reader.proofs.ByKind.{cut_to, by_kind}
-use Rattle.reader.proofs.Turns.{body_at, brings-cut, brings-whole}
+use Rattle.reader.proofs.Turns.{body_at, brings_cut, brings_whole}
 
 module _ {A S : Type 0} (p : Program A S) where
   -- ---- one turn
 
-  pub wants-nothing : (n : ℕ) (r : Reader) (s : S) (left : List ℕ) → wanted r.place ≡ 0 → pumpedFrom p n r s left ≡ []
-  unfolding pumpedFrom
-  wants-nothing zero r s left e = refl
-  wants-nothing (suc n) r s left e =
-      ap (λ (m : ℕ). ifZero m [] (turnBy p s (take (wanted r.place) left) (λ next t. pumpedFrom p n next t (drop (wanted r.place) left)) (progress r (take (wanted r.place) left)))) e
+  pub wants_nothing : (n : ℕ) (r : Reader) (s : S) (left : List ℕ) → wanted r.place ≡ 0 → pumped_from p n r s left ≡ []
+  unfolding pumped_from
+  wants_nothing zero r s left e = refl
+  wants_nothing (suc n) r s left e =
+      ap (λ (m : ℕ). if_zero m [] (turn_by p s (take (wanted r.place) left) (λ next t. pumped_from p n next t (drop (wanted r.place) left)) (progress r (take (wanted r.place) left)))) e
 
-  done-pumped : (n : ℕ) (so_far : Seen) (at : ℕ) (s : S) (left : List ℕ)
-      → pumpedFrom p n (record { place = place·.Done; seen = so_far; at = at }) s left ≡ []
+  done_pumped : (n : ℕ) (so_far : Seen) (at : ℕ) (s : S) (left : List ℕ)
+      → pumped_from p n (record { place = place·.Done; seen = so_far; at = at }) s left ≡ []
   unfolding wanted
-  done-pumped n so_far at s left = wants-nothing n (record { place = place·.Done; seen = so_far; at = at }) s left refl
+  done_pumped n so_far at s left = wants_nothing n (record { place = place·.Done; seen = so_far; at = at }) s left refl
 
   pub turned : (n w : ℕ) (r : Reader) (s : S) (left : List ℕ) → wanted r.place ≡ suc w → (next : Reader) (came : Came) (then : Then)
       → progress r (take (wanted r.place) left) ≡ Of next came then → number_of (declines p s came) ≡ 0
-      → pumpedFrom p (suc n) r s left
+      → pumped_from p (suc n) r s left
       ≡ (front p s came (take (wanted r.place) left) ++ back p (kept p s came (take (wanted r.place) left)) then next.at)
-      ++ pumpedFrom p n next (kept p s came (take (wanted r.place) left)) (drop (wanted r.place) left)
-  unfolding pumpedFrom turnBy
+      ++ pumped_from p n next (kept p s came (take (wanted r.place) left)) (drop (wanted r.place) left)
+  unfolding pumped_from turn_by
   turned n w r s left k next came then e ok =
       let bytes : List ℕ = take (wanted r.place) left in
-      let later : Reader → S → List A = λ next t. pumpedFrom p n next t (drop (wanted r.place) left) in
+      let later : Reader → S → List A = λ next t. pumped_from p n next t (drop (wanted r.place) left) in
       let text : List A = (front p s came bytes ++ back p (kept p s came bytes) then next.at) ++ later next (kept p s came bytes) in
-      ap (λ (m : ℕ). ifZero m [] (turnBy p s bytes later (progress r bytes))) k
-      ∙ ap (turnBy p s bytes later) e
-      ∙ ap (λ (m : ℕ). ifZero m text []) ok
+      ap (λ (m : ℕ). if_zero m [] (turn_by p s bytes later (progress r bytes))) k
+      ∙ ap (turn_by p s bytes later) e
+      ∙ ap (λ (m : ℕ). if_zero m text []) ok
 
   -- ---- the end and a stop
 
-  ended : (n m : ℕ) (so_far : Seen) (at : ℕ) (s : S) (rest left : List ℕ) → recordAt so_far rest ≡ record·.End
-      → back p s then·.End at ++ pumpedFrom p n (record { place = place·.Done; seen = so_far; at = at }) s left ≡ saysFrom p s (streamFrom (suc m) so_far at rest)
-  unfolding saysFrom back
+  ended : (n m : ℕ) (so_far : Seen) (at : ℕ) (s : S) (rest left : List ℕ) → record_at so_far rest ≡ record·.End
+      → back p s then·.End at ++ pumped_from p n (record { place = place·.Done; seen = so_far; at = at }) s left ≡ says_from p s (stream_from (suc m) so_far at rest)
+  unfolding says_from back
   ended n m so_far at s rest left e =
-      ap (λ (l : List A). p.ending s ++ l) (done-pumped n so_far at s left) ∙ append-nil (p.ending s) ∙ ap (saysFrom p s) (sym (from_end m so_far at rest e))
+      ap (λ (l : List A). p.ending s ++ l) (done_pumped n so_far at s left) ∙ append-nil (p.ending s) ∙ ap (says_from p s) (sym (from_end m so_far at rest e))
 
-  stopped : (n m : ℕ) (so_far : Seen) (at : ℕ) (s : S) (rest left : List ℕ) (a : Answer) → recordAt so_far rest ≡ record·.Refused a
-      → back p s (then·.Stop a) at ++ pumpedFrom p n (record { place = place·.Done; seen = so_far; at = at }) s left ≡ saysFrom p s (streamFrom (suc m) so_far at rest)
-  unfolding saysFrom back
+  stopped : (n m : ℕ) (so_far : Seen) (at : ℕ) (s : S) (rest left : List ℕ) (a : Answer) → record_at so_far rest ≡ record·.Refused a
+      → back p s (then·.Stop a) at ++ pumped_from p n (record { place = place·.Done; seen = so_far; at = at }) s left ≡ says_from p s (stream_from (suc m) so_far at rest)
+  unfolding says_from back
   stopped n m so_far at s rest left a e =
-      ap (λ (l : List A). p.stopping a at ++ l) (done-pumped n so_far at s left) ∙ append-nil (p.stopping a at)
-      ∙ ap (saysFrom p s) (sym (from-refused m so_far at rest a e))
+      ap (λ (l : List A). p.stopping a at ++ l) (done_pumped n so_far at s left) ∙ append-nil (p.stopping a at)
+      ∙ ap (says_from p s) (sym (from_refused m so_far at rest a e))
 
   -- ---- from a kind byte on, and from a body on
 
@@ -89,79 +89,79 @@ module _ {A S : Type 0} (p : Program A S) where
     -- a kind byte at the offset has said that this body comes
     FromBody : ℕ → ℕ → Type 0
     FromBody n m = (so_far : Seen) (g : Geometry) (kind at : ℕ) (s : S) (left : List ℕ) → length left < n → suc (length left) < m → at + 1 + length left ≤ largest → Holds at s
-        → kindRecord so_far kind longest ≡ record·.Piece g → pumpedFrom p n (body_at g so_far at) s left ≡ saysFrom p s (streamFrom m so_far at (kind ∷ left))
+        → kind_record so_far kind longest ≡ record·.Piece g → pumped_from p n (body_at g so_far at) s left ≡ says_from p s (stream_from m so_far at (kind ∷ left))
 
-    from-kind : (n m : ℕ) (so_far : Seen) (at : ℕ) (s : S) (rest : List ℕ) → length rest < suc n → length rest < suc m → at + length rest ≤ largest → Holds at s → FromBody n (suc m)
-        → (r : Record) → openedBy so_far (take 1 rest) ≡ r
-        → back p s (thenBy r) at ++ pumpedFrom p n (record { place = placeBy r; seen = so_far; at = at }) s (drop 1 rest) ≡ saysFrom p s (streamFrom (suc m) so_far at rest)
-    unfolding FromBody openedBy recordAt saysFrom back placeBy thenBy
-    from-kind n m so_far at s [] h k f o from (record·.Piece g) e = let z : ◌≡◌ {A = ℕ} 0 1 = cc in absurd (omega arith)
-    from-kind n m so_far at s [] h k f o from record·.End e = let z : ◌≡◌ {A = ℕ} 0 1 = cc in absurd (omega arith)
-    from-kind n m so_far at s [] h k f o from (record·.Refused a) e = stopped n m so_far at s [] [] a e
-    from-kind n m so_far at s (kind ∷ later) h k f o from (record·.Piece g) e = from so_far g kind at s later (omega arith) (omega arith) (omega arith) o e
-    from-kind n m so_far at s (kind ∷ later) h k f o from record·.End e =
+    from_kind : (n m : ℕ) (so_far : Seen) (at : ℕ) (s : S) (rest : List ℕ) → length rest < suc n → length rest < suc m → at + length rest ≤ largest → Holds at s → FromBody n (suc m)
+        → (r : Record) → opened_by so_far (take 1 rest) ≡ r
+        → back p s (then_by r) at ++ pumped_from p n (record { place = place_by r; seen = so_far; at = at }) s (drop 1 rest) ≡ says_from p s (stream_from (suc m) so_far at rest)
+    unfolding FromBody opened_by record_at says_from back place_by then_by
+    from_kind n m so_far at s [] h k f o from (record·.Piece g) e = let z : ◌≡◌ {A = ℕ} 0 1 = cc in absurd (omega arith)
+    from_kind n m so_far at s [] h k f o from record·.End e = let z : ◌≡◌ {A = ℕ} 0 1 = cc in absurd (omega arith)
+    from_kind n m so_far at s [] h k f o from (record·.Refused a) e = stopped n m so_far at s [] [] a e
+    from_kind n m so_far at s (kind ∷ later) h k f o from (record·.Piece g) e = from so_far g kind at s later (omega arith) (omega arith) (omega arith) o e
+    from_kind n m so_far at s (kind ∷ later) h k f o from record·.End e =
         ended n m so_far at s (kind ∷ later) later (by_kind so_far kind (length later) ∙ ap (cut_to (length later)) e)
-    from-kind n m so_far at s (kind ∷ later) h k f o from (record·.Refused a) e =
+    from_kind n m so_far at s (kind ∷ later) h k f o from (record·.Refused a) e =
         stopped n m so_far at s (kind ∷ later) later a (by_kind so_far kind (length later) ∙ ap (cut_to (length later)) e)
 
-    module _ (n m : ℕ) (so_far : Seen) (g : Geometry) (kind at : ℕ) (s : S) (left : List ℕ) (e : kindRecord so_far kind longest ≡ record·.Piece g) where
+    module _ (n m : ℕ) (so_far : Seen) (g : Geometry) (kind at : ℕ) (s : S) (left : List ℕ) (e : kind_record so_far kind longest ≡ record·.Piece g) where
       -- the record, with so many bytes behind its kind
-      behind : (t : Bool) → ltb (length left) (body_of g) ≡ t → recordAt so_far (kind ∷ left) ≡ pick t (record·.Refused CutRecord) (record·.Piece g)
-      unfolding recordAt
+      behind : (t : Bool) → ltb (length left) (body_of g) ≡ t → record_at so_far (kind ∷ left) ≡ pick t (record·.Refused CutRecord) (record·.Piece g)
+      unfolding record_at
       behind t f = by_kind so_far kind (length left) ∙ ap (cut_to (length left)) e ∙ ap (λ (u : Bool). pick u (record·.Refused CutRecord) (record·.Piece g)) f
 
-      cut-body : ltb (length left) (body_of g) ≡ true → pumpedFrom p (suc n) (body_at g so_far at) s left ≡ saysFrom p s (streamFrom (suc m) so_far at (kind ∷ left))
-      unfolding wanted front kept declines placeBy thenBy
-      cut-body f =
+      cut_body : ltb (length left) (body_of g) ≡ true → pumped_from p (suc n) (body_at g so_far at) s left ≡ says_from p s (stream_from (suc m) so_far at (kind ∷ left))
+      unfolding wanted front kept declines place_by then_by
+      cut_body f =
           turned n (body_of g) (body_at g so_far at) s left (add-one (body_of g)) _ came·.Cut (then·.Stop CutRecord)
-          (brings-cut g so_far at left (ltb-true (length left) (body_of g) f)) refl
+          (brings_cut g so_far at left (ltb-true (length left) (body_of g) f)) refl
           ∙ stopped n m so_far at s (kind ∷ left) (drop (body_of g + 1) left) CutRecord (behind true f)
 
-      whole-body : length left < suc n → length left < suc m → at + 1 + length left ≤ largest → Holds at s → FromBody n (suc m) → ltb (length left) (body_of g) ≡ false
-          → pumpedFrom p (suc n) (body_at g so_far at) s left ≡ saysFrom p s (streamFrom (suc (suc m)) so_far at (kind ∷ left))
-      unfolding wanted front kept declines saysFrom
-      whole-body h k l o from f =
+      whole_body : length left < suc n → length left < suc m → at + 1 + length left ≤ largest → Holds at s → FromBody n (suc m) → ltb (length left) (body_of g) ≡ false
+          → pumped_from p (suc n) (body_at g so_far at) s left ≡ says_from p s (stream_from (suc (suc m)) so_far at (kind ∷ left))
+      unfolding wanted front kept declines says_from
+      whole_body h k l o from f =
           let b : body_of g ≤ length left = ltb-false (length left) (body_of g) f in
           let full : List ℕ = take (body_of g) left in
           let rest : List ℕ = drop (body_of g) left in
           let t : S = p.after s g full in
-          let r : Record = openedBy (seen·.Pieces g) (take 1 rest) in
-          let next : Reader = record { place = placeBy r; seen = seen·.Pieces g; at = at + 1 + body_of g } in
+          let r : Record = opened_by (seen·.Pieces g) (take 1 rest) in
+          let next : Reader = record { place = place_by r; seen = seen·.Pieces g; at = at + 1 + body_of g } in
           let q : take (body_of g) (take (body_of g + 1) left) ≡ full = take-take (body_of g) (body_of g + 1) left (omega arith) in
           let d : drop (body_of g + 1) left ≡ drop 1 rest = sym (drop-drop 1 (body_of g) left) in
-          turned n (body_of g) (body_at g so_far at) s left (add-one (body_of g)) next (came·.Piece g) (thenBy r)
-          (brings-whole g so_far at left b (omega arith)) (passes at s g o (omega arith))
-          ∙ (λ i. (p.line s g (q i) ++ back p (p.after s g (q i)) (thenBy r) (at + 1 + body_of g)) ++ pumpedFrom p n next (p.after s g (q i)) (d i))
-          ∙ append_assoc (p.line s g full) (back p t (thenBy r) (at + 1 + body_of g)) (pumpedFrom p n next t (drop 1 rest))
+          turned n (body_of g) (body_at g so_far at) s left (add-one (body_of g)) next (came·.Piece g) (then_by r)
+          (brings_whole g so_far at left b (omega arith)) (passes at s g o (omega arith))
+          ∙ (λ i. (p.line s g (q i) ++ back p (p.after s g (q i)) (then_by r) (at + 1 + body_of g)) ++ pumped_from p n next (p.after s g (q i)) (d i))
+          ∙ append_assoc (p.line s g full) (back p t (then_by r) (at + 1 + body_of g)) (pumped_from p n next t (drop 1 rest))
           ∙ ap (λ (x : List A). p.line s g full ++ x)
-          (from-kind n m (seen·.Pieces g) (at + 1 + body_of g) t rest (omega (arith, length-drop (body_of g) left)) (omega (arith, length-drop (body_of g) left))
+          (from_kind n m (seen·.Pieces g) (at + 1 + body_of g) t rest (omega (arith, length-drop (body_of g) left)) (omega (arith, length-drop (body_of g) left))
           (omega (arith, length-drop (body_of g) left)) (goes_on at s g full o) from r refl)
-          ∙ ap (λ (x : List ℕ). p.line s g full ++ saysFrom p t (streamFrom (suc m) (seen·.Pieces g) (at + 1 + body_of g) x))
+          ∙ ap (λ (x : List ℕ). p.line s g full ++ says_from p t (stream_from (suc m) (seen·.Pieces g) (at + 1 + body_of g) x))
           (sym (ap (λ (i : ℕ). drop i (kind ∷ left)) (add_comm 1 (body_of g) ∙ add-one (body_of g))))
-          ∙ ap (saysFrom p s) (sym (from-piece (suc m) so_far at (kind ∷ left) g (behind false f)))
+          ∙ ap (says_from p s) (sym (from_piece (suc m) so_far at (kind ∷ left) g (behind false f)))
 
-    from-body : (n m : ℕ) → FromBody n m
+    from_body : (n m : ℕ) → FromBody n m
     unfolding FromBody
-    from-body zero m so_far g kind at s left h k l o e = absurd (not-suc-le-zero h)
-    from-body (suc n) zero so_far g kind at s left h k l o e = absurd (not-suc-le-zero k)
-    from-body (suc n) (suc zero) so_far g kind at s left h k l o e = absurd (omega arith)
-    from-body (suc n) (suc (suc m)) so_far g kind at s left h k l o e = either (from-body n (suc m)) (ltb (length left) (body_of g)) refl
+    from_body zero m so_far g kind at s left h k l o e = absurd (not-suc-le-zero h)
+    from_body (suc n) zero so_far g kind at s left h k l o e = absurd (not-suc-le-zero k)
+    from_body (suc n) (suc zero) so_far g kind at s left h k l o e = absurd (omega arith)
+    from_body (suc n) (suc (suc m)) so_far g kind at s left h k l o e = either (from_body n (suc m)) (ltb (length left) (body_of g)) refl
       where
         either : FromBody n (suc m) → (t : Bool) → ltb (length left) (body_of g) ≡ t
-            → pumpedFrom p (suc n) (body_at g so_far at) s left ≡ saysFrom p s (streamFrom (suc (suc m)) so_far at (kind ∷ left))
-        either later true f = cut-body n (suc m) so_far g kind at s left e f
-        either later false f = whole-body n m so_far g kind at s left e h (omega arith) l o later f
+            → pumped_from p (suc n) (body_at g so_far at) s left ≡ says_from p s (stream_from (suc (suc m)) so_far at (kind ∷ left))
+        either later true f = cut_body n (suc m) so_far g kind at s left e f
+        either later false f = whole_body n m so_far g kind at s left e h (omega arith) l o later f
 
     -- ---- the whole input
 
-    pub pumped-is : (n : ℕ) (s : S) (input : List ℕ) → Holds 0 s → length input < largest → length input < n
-        → pumpedFrom p n started s input ≡ p.header ++ saysFrom p s (streamOf input)
-    unfolding streamOf wanted brings front kept declines
-    pumped-is zero s input o small h = absurd (not-suc-le-zero h)
-    pumped-is (suc n) s input o small h =
-        let r : Record = openedBy seen·.Nothing (take 1 input) in
-        let next : Reader = record { place = placeBy r; seen = seen·.Nothing; at = 0 } in
-        turned n 0 started s input refl next came·.Start (thenBy r) (place-decides started (take 1 input) (simp length-take (omega arith))) refl
-        ∙ append_assoc p.header (back p s (thenBy r) 0) (pumpedFrom p n next s (drop 1 input))
+    pub pumped_is : (n : ℕ) (s : S) (input : List ℕ) → Holds 0 s → length input < largest → length input < n
+        → pumped_from p n started s input ≡ p.header ++ says_from p s (stream_of input)
+    unfolding stream_of wanted brings front kept declines
+    pumped_is zero s input o small h = absurd (not-suc-le-zero h)
+    pumped_is (suc n) s input o small h =
+        let r : Record = opened_by seen·.Nothing (take 1 input) in
+        let next : Reader = record { place = place_by r; seen = seen·.Nothing; at = 0 } in
+        turned n 0 started s input refl next came·.Start (then_by r) (place_decides started (take 1 input) (simp length-take (omega arith))) refl
+        ∙ append_assoc p.header (back p s (then_by r) 0) (pumped_from p n next s (drop 1 input))
         ∙ ap (λ (x : List A). p.header ++ x)
-        (from-kind n (length input) seen·.Nothing 0 s input h (omega arith) (omega arith) o (from-body n (suc (length input))) r refl)
+        (from_kind n (length input) seen·.Nothing 0 s input h (omega arith) (omega arith) o (from_body n (suc (length input))) r refl)

@@ -19,7 +19,7 @@ use Rattle.stream.specs.declared.Record.{Record}
 use Rattle.stream.specs.declared.Record.TheVariants as record·
 use Rattle.stream.specs.Geometries.{body_of}
 use Rattle.stream.specs.Streams.{largest}
-use Rattle.stream.specs.Records.{kindRecord}
+use Rattle.stream.specs.Records.{kind_record}
 use Rattle.reader.specs.declared.Place.{Place}
 use Rattle.reader.specs.declared.Place.TheVariants as place·
 use Rattle.reader.specs.declared.Reader.{Reader}
@@ -29,49 +29,49 @@ use Rattle.reader.specs.declared.Then.{Then}
 use Rattle.reader.specs.declared.Then.TheVariants as then·
 use Rattle.reader.specs.declared.Progress.{Progress}
 use Rattle.reader.specs.declared.Progress.TheVariants.{Of, Refused}
-use Rattle.reader.specs.Reading.{longest, wanted, openedBy, placeBy, thenBy, on, bodyBrings, brings, progress, bodyIn}
+use Rattle.reader.specs.Reading.{longest, wanted, opened_by, place_by, then_by, on, body_brings, brings, progress, body_in}
 
-pub body-short : (g : Geometry) → body_of g ≤ longest
-body-short Of3By2 = omega arith
-body-short Of16By240 = omega arith
-body-short Of32By480 = omega arith
+pub body_short : (g : Geometry) → body_of g ≤ longest
+body_short Of3By2 = omega arith
+body_short Of16By240 = omega arith
+body_short Of32By480 = omega arith
 
 -- ---- a kind byte, or none
 
-pub no_byte : (so_far : Seen) (bytes : List ℕ) → length bytes ≡ 0 → record·.Refused CutRecord ≡ openedBy so_far bytes
-unfolding openedBy
+pub no_byte : (so_far : Seen) (bytes : List ℕ) → length bytes ≡ 0 → record·.Refused CutRecord ≡ opened_by so_far bytes
+unfolding opened_by
 no_byte so_far [] e = refl
 no_byte so_far (kind ∷ behind) e = absurd (omega arith)
 
-pub a_byte : (so_far : Seen) (bytes : List ℕ) → (length bytes ≡ 0 → ⊥) → kindRecord so_far (get_or bytes 0 0) longest ≡ openedBy so_far bytes
-unfolding openedBy
+pub a_byte : (so_far : Seen) (bytes : List ℕ) → (length bytes ≡ 0 → ⊥) → kind_record so_far (get_or bytes 0 0) longest ≡ opened_by so_far bytes
+unfolding opened_by
 a_byte so_far [] h = absurd (h refl)
 a_byte so_far (kind ∷ behind) h = refl
 
 -- ---- a body, and what is wanted
 
 module _ (g : Geometry) (r : Reader) (bytes : List ℕ) where
-  pub body-cut : length bytes < body_of g → bodyBrings g r bytes ≡ on r.seen r.at came·.Cut (record·.Refused CutRecord)
-  unfolding bodyBrings
-  body-cut h = simp (lt-ltb _ _ h)
+  pub body_cut : length bytes < body_of g → body_brings g r bytes ≡ on r.seen r.at came·.Cut (record·.Refused CutRecord)
+  unfolding body_brings
+  body_cut h = simp (lt-ltb _ _ h)
 
-  pub body-far : body_of g ≤ length bytes → largest < r.at + 1 + body_of g → bodyBrings g r bytes ≡ Refused BadState
-  unfolding bodyBrings
-  body-far h k = simp (le-ltb _ _ h, lt-ltb _ _ k)
+  pub body_far : body_of g ≤ length bytes → largest < r.at + 1 + body_of g → body_brings g r bytes ≡ Refused BadState
+  unfolding body_brings
+  body_far h k = simp (le-ltb _ _ h, lt-ltb _ _ k)
 
-  pub body-whole : body_of g ≤ length bytes → r.at + 1 + body_of g ≤ largest
-      → bodyBrings g r bytes ≡ on (seen·.Pieces g) (r.at + 1 + body_of g) (came·.Piece g) (openedBy (seen·.Pieces g) (drop (body_of g) bytes))
-  unfolding bodyBrings
-  body-whole h k = simp (le-ltb _ _ h, le-ltb _ _ k)
+  pub body_whole : body_of g ≤ length bytes → r.at + 1 + body_of g ≤ largest
+      → body_brings g r bytes ≡ on (seen·.Pieces g) (r.at + 1 + body_of g) (came·.Piece g) (opened_by (seen·.Pieces g) (drop (body_of g) bytes))
+  unfolding body_brings
+  body_whole h k = simp (le-ltb _ _ h, le-ltb _ _ k)
 
 module _ (r : Reader) (bytes : List ℕ) where
   pub too_many : wanted r.place < length bytes → progress r bytes ≡ Refused BadState
   unfolding progress
   too_many h = simp (lt-ltb _ _ h)
 
-  pub place-decides : length bytes ≤ wanted r.place → progress r bytes ≡ brings r.place r bytes
+  pub place_decides : length bytes ≤ wanted r.place → progress r bytes ≡ brings r.place r bytes
   unfolding progress
-  place-decides h = simp (le-ltb _ _ h)
+  place_decides h = simp (le-ltb _ _ h)
 
 -- ---- what is brought: a piece's whole body is there, with an offset behind it that is a number of the machine; nothing is refused but by 22
 
@@ -86,11 +86,11 @@ pub data Opened : Place → Then → Type 0 where
   ended : Opened place·.Done then·.End
   stopped : {a : Answer} → Opened place·.Done (then·.Stop a)
 
-by-record : (r : Record) → Opened (placeBy r) (thenBy r)
-unfolding placeBy thenBy
-by-record (record·.Piece g) = body
-by-record record·.End = ended
-by-record (record·.Refused a) = stopped
+by_record : (r : Record) → Opened (place_by r) (then_by r)
+unfolding place_by then_by
+by_record (record·.Piece g) = body
+by_record record·.End = ended
+by_record (record·.Refused a) = stopped
 
 data Sound (r : Reader) (bytes : List ℕ) : Progress → Type 0 where
   goes : {next : Reader} {came : Came} {then : Then} → Brought r bytes next came → Opened next.place then → Sound r bytes (Of next came then)
@@ -101,40 +101,40 @@ either true f g = f refl
 either false f g = g refl
 
 sound : (r : Reader) (bytes : List ℕ) → Sound r bytes (progress r bytes)
-unfolding progress brings bodyBrings
+unfolding progress brings body_brings
 sound r bytes = either (ltb (wanted r.place) (length bytes)) (λ e. bad) (λ e. at_place r.place)
   where
     at_place : (p : Place) → Sound r bytes (brings p r bytes)
-    at_place place·.Start = goes (start refl) (by-record _)
+    at_place place·.Start = goes (start refl) (by_record _)
     at_place (place·.Body g) =
-        either (ltb (length bytes) (body_of g)) (λ e. goes (cut refl) (by-record _))
-        (λ e. either (ltb largest (r.at + 1 + body_of g)) (λ f. bad) (λ f. goes (whole {g = g} (ltb-false _ _ e) refl (ltb-false _ _ f)) (by-record _)))
+        either (ltb (length bytes) (body_of g)) (λ e. goes (cut refl) (by_record _))
+        (λ e. either (ltb largest (r.at + 1 + body_of g)) (λ f. bad) (λ f. goes (whole {g = g} (ltb-false _ _ e) refl (ltb-false _ _ f)) (by_record _)))
     at_place place·.Done = bad
 
-as-brought : {r : Reader} {bytes : List ℕ} {next : Reader} {came : Came} {then : Then} → Sound r bytes (Of next came then) → Brought r bytes next came
-as-brought (goes b o) = b
+as_brought : {r : Reader} {bytes : List ℕ} {next : Reader} {came : Came} {then : Then} → Sound r bytes (Of next came then) → Brought r bytes next came
+as_brought (goes b o) = b
 
-as-opened : {r : Reader} {bytes : List ℕ} {next : Reader} {came : Came} {then : Then} → Sound r bytes (Of next came then) → Opened next.place then
-as-opened (goes b o) = o
+as_opened : {r : Reader} {bytes : List ℕ} {next : Reader} {came : Came} {then : Then} → Sound r bytes (Of next came then) → Opened next.place then
+as_opened (goes b o) = o
 
 no_other : {r : Reader} {bytes : List ℕ} {a : Answer} → Sound r bytes (Refused a) → a ≡ BadState
 no_other bad = refl
 
 module _ (r : Reader) (bytes : List ℕ) where
   pub brought : {next : Reader} {came : Came} {then : Then} → progress r bytes ≡ Of next came then → Brought r bytes next came
-  brought e = as-brought (subst (Sound r bytes) e (sound r bytes))
+  brought e = as_brought (subst (Sound r bytes) e (sound r bytes))
 
   pub opens : {next : Reader} {came : Came} {then : Then} → progress r bytes ≡ Of next came then → Opened next.place then
-  opens e = as-opened (subst (Sound r bytes) e (sound r bytes))
+  opens e = as_opened (subst (Sound r bytes) e (sound r bytes))
 
-  pub only-bad : {a : Answer} → progress r bytes ≡ Refused a → a ≡ BadState
-  only-bad e = no_other (subst (Sound r bytes) e (sound r bytes))
+  pub only_bad : {a : Answer} → progress r bytes ≡ Refused a → a ≡ BadState
+  only_bad e = no_other (subst (Sound r bytes) e (sound r bytes))
 
-  pub body-came : {next : Reader} {came : Came} {then : Then} → progress r bytes ≡ Of next came then → bodyIn came ≤ length bytes
-  unfolding bodyIn
-  body-came e = there (brought e)
+  pub body_came : {next : Reader} {came : Came} {then : Then} → progress r bytes ≡ Of next came then → body_in came ≤ length bytes
+  unfolding body_in
+  body_came e = there (brought e)
     where
-      there : {next : Reader} {came : Came} → Brought r bytes next came → bodyIn came ≤ length bytes
+      there : {next : Reader} {came : Came} → Brought r bytes next came → body_in came ≤ length bytes
       there (start h) = omega arith
       there (whole h k l) = h
       there (cut h) = omega arith

@@ -3,8 +3,8 @@
 use Rattle.std.specs.Prelude.{◌≡◌, List, [], ◌++◌, ℕ, zero, suc, take, drop}
 use Rattle.answers.specs.declared.Answer.{Answer}
 use Rattle.answers.specs.declared.Answer.TheVariants.{Ok}
-use Rattle.linear.specs.Choice.{ifZero}
-use Rattle.block.specs.Refusal.{ifOk}
+use Rattle.linear.specs.Choice.{if_zero}
+use Rattle.block.specs.Refusal.{if_ok}
 use Rattle.stream.specs.declared.Geometry.{Geometry}
 use Rattle.stream.specs.Geometries.{body_of}
 use Rattle.stream.specs.Streams.{Stream, piece, end, stop}
@@ -29,10 +29,10 @@ pub record Program (A S : Type 0) : Type 0 where
 
 module _ {A S : Type 0} (p : Program A S) where
   -- what it says of a stream that is known whole
-  unfoldable pub saysFrom : S → Stream → List A
-  saysFrom s (piece g full later) = p.line s g full ++ saysFrom (p.after s g full) later
-  saysFrom s end = p.ending s
-  saysFrom s (stop a at) = p.stopping a at
+  unfoldable pub says_from : S → Stream → List A
+  says_from s (piece g full later) = p.line s g full ++ says_from (p.after s g full) later
+  says_from s end = p.ending s
+  says_from s (stop a at) = p.stopping a at
 
   -- a turn: what is said of what came, what is kept of it and why it is refused, and what is said of the record behind it
   unfoldable pub front : S → Came → List ℕ → List A
@@ -56,17 +56,17 @@ module _ {A S : Type 0} (p : Program A S) where
   back s (then·.Stop a) at = p.stopping a at
 
   -- what is said in a turn, and then; a refusal ends it
-  unfoldable pub turnBy : S → List ℕ → (Reader → S → List A) → Progress → List A
-  turnBy s bytes later (Of next came then) =
-      ifOk (declines s came) ((front s came bytes ++ back (kept s came bytes) then next.at) ++ later next (kept s came bytes)) []
-  turnBy s bytes later (Refused a) = []
+  unfoldable pub turn_by : S → List ℕ → (Reader → S → List A) → Progress → List A
+  turn_by s bytes later (Of next came then) =
+      if_ok (declines s came) ((front s came bytes ++ back (kept s came bytes) then next.at) ++ later next (kept s came bytes)) []
+  turn_by s bytes later (Refused a) = []
 
   -- at most so many turns, with so many bytes left: what is wanted is read, until nothing is
-  unfoldable pub pumpedFrom : ℕ → Reader → S → List ℕ → List A
-  pumpedFrom zero r s left = []
-  pumpedFrom (suc turns) r s left =
-      ifZero (wanted r.place) []
-      (turnBy s (take (wanted r.place) left) (λ next t. pumpedFrom turns next t (drop (wanted r.place) left)) (progress r (take (wanted r.place) left)))
+  unfoldable pub pumped_from : ℕ → Reader → S → List ℕ → List A
+  pumped_from zero r s left = []
+  pumped_from (suc turns) r s left =
+      if_zero (wanted r.place) []
+      (turn_by s (take (wanted r.place) left) (λ next t. pumped_from turns next t (drop (wanted r.place) left)) (progress r (take (wanted r.place) left)))
 
 -- an input read in so many turns: what is wanted of the bytes left is read, until nothing is wanted. No turn is refused
 pub data Reads : ℕ → Reader → List ℕ → Type 0 where

@@ -9,7 +9,7 @@ use Rattle.stream.specs.declared.Seen.TheVariants as seen·
 use Rattle.stream.specs.declared.Record.{Record}
 use Rattle.stream.specs.declared.Record.TheVariants as record·
 use Rattle.stream.specs.Geometries.{body_of}
-use Rattle.stream.specs.Records.{kindRecord}
+use Rattle.stream.specs.Records.{kind_record}
 use Rattle.stream.specs.Streams.{largest}
 use Rattle.reader.specs.declared.Place.{Place}
 use Rattle.reader.specs.declared.Place.TheVariants as place·
@@ -35,38 +35,38 @@ wanted (place·.Body g) = body_of g + 1
 wanted place·.Done = 0
 
 -- the record that a kind byte opens, its body still to come; "no end record, 25"
-unfoldable pub openedBy : Seen → List ℕ → Record
-openedBy so_far [] = record·.Refused CutRecord
-openedBy so_far (kind ∷ behind) = kindRecord so_far kind longest
+unfoldable pub opened_by : Seen → List ℕ → Record
+opened_by so_far [] = record·.Refused CutRecord
+opened_by so_far (kind ∷ behind) = kind_record so_far kind longest
 
 -- what is wanted behind an opened record, and what is said of it
-unfoldable pub placeBy : Record → Place
-placeBy (record·.Piece g) = place·.Body g
-placeBy record·.End = place·.Done
-placeBy (record·.Refused a) = place·.Done
+unfoldable pub place_by : Record → Place
+place_by (record·.Piece g) = place·.Body g
+place_by record·.End = place·.Done
+place_by (record·.Refused a) = place·.Done
 
-unfoldable pub thenBy : Record → Then
-thenBy (record·.Piece g) = then·.Body
-thenBy record·.End = then·.End
-thenBy (record·.Refused a) = then·.Stop a
+unfoldable pub then_by : Record → Then
+then_by (record·.Piece g) = then·.Body
+then_by record·.End = then·.End
+then_by (record·.Refused a) = then·.Stop a
 
-abbrev pub wantingAt : Seen → ℕ → Place → Reader
-wantingAt so_far at place = record { place = place; seen = so_far; at = at }
+abbrev pub wanting_at : Seen → ℕ → Place → Reader
+wanting_at so_far at place = record { place = place; seen = so_far; at = at }
 
 -- a record opened at an offset, and what came before it
 abbrev pub on : Seen → ℕ → Came → Record → Progress
-on so_far at came r = Of (wantingAt so_far at (placeBy r)) came (thenBy r)
+on so_far at came r = Of (wanting_at so_far at (place_by r)) came (then_by r)
 
 -- a body: "a record cut short .. 25"; else the record behind it, at an offset that has to be a number of the machine
-unfoldable pub bodyBrings : Geometry → Reader → List ℕ → Progress
-bodyBrings g r bytes =
+unfoldable pub body_brings : Geometry → Reader → List ℕ → Progress
+body_brings g r bytes =
     pick (ltb (length bytes) (body_of g)) (on r.seen r.at came·.Cut (record·.Refused CutRecord))
     (pick (ltb largest (r.at + 1 + body_of g)) (Refused BadState)
-    (on (seen·.Pieces g) (r.at + 1 + body_of g) (came·.Piece g) (openedBy (seen·.Pieces g) (drop (body_of g) bytes))))
+    (on (seen·.Pieces g) (r.at + 1 + body_of g) (came·.Piece g) (opened_by (seen·.Pieces g) (drop (body_of g) bytes))))
 
 unfoldable pub brings : Place → Reader → List ℕ → Progress
-brings place·.Start r bytes = on r.seen r.at came·.Start (openedBy r.seen bytes)
-brings (place·.Body g) r bytes = bodyBrings g r bytes
+brings place·.Start r bytes = on r.seen r.at came·.Start (opened_by r.seen bytes)
+brings (place·.Body g) r bytes = body_brings g r bytes
 brings place·.Done r bytes = Refused BadState
 
 -- 22 for more bytes than are wanted
@@ -74,16 +74,16 @@ unfoldable pub progress : Reader → List ℕ → Progress
 progress r bytes = pick (ltb (wanted r.place) (length bytes)) (Refused BadState) (brings r.place r bytes)
 
 -- the body that stands whole at the front of the bytes
-unfoldable pub bodyIn : Came → ℕ
-bodyIn came·.Start = 0
-bodyIn (came·.Piece g) = body_of g
-bodyIn came·.Cut = 0
+unfoldable pub body_in : Came → ℕ
+body_in came·.Start = 0
+body_in (came·.Piece g) = body_of g
+body_in came·.Cut = 0
 
 -- the paper's number, and the values: the offset of the record that was opened
-unfoldable pub progressNumber : Progress → ℕ
-progressNumber (Of r came then) = 0
-progressNumber (Refused a) = number_of a
+unfoldable pub progress_number : Progress → ℕ
+progress_number (Of r came then) = 0
+progress_number (Refused a) = number_of a
 
-unfoldable pub progressValues : Progress → List ℕ
-progressValues (Of r came then) = r.at ∷ []
-progressValues (Refused a) = []
+unfoldable pub progress_values : Progress → List ℕ
+progress_values (Of r came then) = r.at ∷ []
+progress_values (Refused a) = []

@@ -2,7 +2,7 @@
 // is wanted first, then each body with the kind byte behind it, so that nothing behind the end record is asked for. What is done with a piece is a
 // program's own.
 ghost use Rattle.std.specs.Prelude.{◌≡◌};
-ghost use Rattle.reader.specs.Reading.{started, wanted, openedBy, wantingAt, on, bodyBrings, progress};
+ghost use Rattle.reader.specs.Reading.{started, wanted, opened_by, wanting_at, on, body_brings, progress};
 
 use answers::Answer;
 use stream::{Geometry, Record, Seen};
@@ -93,7 +93,7 @@ impl Reader {
 
     // The body of a piece, and the kind byte behind it.
     fn body(self, g: Geometry, input: &[u8]) -> Progress
-        ensures { result ≡ bodyBrings g self input.now }
+        ensures { result ≡ body_brings g self input.now }
     {
         let n = g.body_len();
         if input.len() < n {
@@ -125,7 +125,7 @@ impl Reader {
     }
 
     fn wanting(self, place: Place) -> Reader
-        ensures { result ≡ wantingAt self.seen self.at place }
+        ensures { result ≡ wanting_at self.seen self.at place }
     {
         let seen = self.seen;
         Reader {
@@ -138,7 +138,7 @@ impl Reader {
 
 // The record that a kind byte opens, its body still to come; 25 where the input has ended.
 fn opened(so_far: Seen, input: &[u8]) -> Record
-    ensures { result ≡ openedBy so_far input.now }
+    ensures { result ≡ opened_by so_far input.now }
 {
     if input.len() == 0 {
         return Record::Refused(Answer::CutRecord);

@@ -9,9 +9,9 @@ use Rattle.recoder.specs.declared.Recoder.{Recoder}
 use Rattle.recoder.specs.declared.Made.{Made}
 use Rattle.recoder.specs.Entries.{NewRecoder, Recoded}
 
-pub one-new-recoder : {n width k : ℕ} {r r' : Made} → NewRecoder n width k r → NewRecoder n width k r' → r ≡ r'
-one-new-recoder x y = x.result ∙ sym y.result
+pub one_new_recoder : {n width k : ℕ} {r r' : Made} → NewRecoder n width k r → NewRecoder n width k r' → r ≡ r'
+one_new_recoder x y = x.result ∙ sym y.result
 
-pub one-recoded : {𝓕 : FieldLaws} {d : Recoder} {pieces vector out : List ℕ} {r r' : Answer} {last last' : List ℕ}
+pub one_recoded : {𝓕 : FieldLaws} {d : Recoder} {pieces vector out : List ℕ} {r r' : Answer} {last last' : List ℕ}
     → Recoded 𝓕 d pieces vector out r last → Recoded 𝓕 d pieces vector out r' last' → (r ≡ r') × (last ≡ last')
-one-recoded x y = (x.result ∙ sym y.result, x.left ∙ sym y.left)
+one_recoded x y = (x.result ∙ sym y.result, x.left ∙ sym y.left)

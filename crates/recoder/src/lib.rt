@@ -3,7 +3,7 @@
 ghost use Rattle.std.specs.Prelude.{◌≡◌, not, ◌-◌, length};
 ghost use Rattle.field.specs.FieldOf.{field_of};
 ghost use Rattle.block.specs.Counts.{counted};
-ghost use Rattle.recoder.specs.Entries.{NewRecoder, sound, badState, Recoded};
+ghost use Rattle.recoder.specs.Entries.{NewRecoder, sound, bad_state, Recoded};
 
 use answers::Answer;
 use block::Count;
@@ -121,7 +121,7 @@ impl Recoder {
 
     // The record's numbers are good, and the lent pieces are as many bytes as they say.
     fn holds(self, pieces: &[u8]) -> bool
-        ensures { result ≡ not (badState self (length pieces.now)) }
+        ensures { result ≡ not (bad_state self (length pieces.now)) }
     {
         if self.is_sound() {
             return self.num_pieces_received * self.full_coded_piece_byte_len <= pieces.len();

@@ -9,31 +9,31 @@ use Rattle.decoder.specs.declared.Decoder.{Decoder}
 use Rattle.stored.specs.declared.Saved.{Saved}
 use Rattle.stored.specs.declared.Saved.TheVariants as saved
 use Rattle.stored.specs.declared.Loaded.{Loaded}
-use Rattle.stored.specs.Entries.{savedNumber, saveRefusal, Saving, loadedNumber, Loading}
-use Rattle.rlnc.specs.Forms.{FormSaved, loadedOr, FormLoaded}
-use Rattle.rlnc.proofs.Records.{if-ok-ap, number_is}
+use Rattle.stored.specs.Entries.{saved_number, save_refusal, Saving, loaded_number, Loading}
+use Rattle.rlnc.specs.Forms.{FormSaved, loaded_or, FormLoaded}
+use Rattle.rlnc.proofs.Records.{if_ok_ap, number_is}
 
-unfoldable pub sizeAfter : ℕ → Saved → ℕ
-sizeAfter n (saved.Bytes x) = x
-sizeAfter n (saved.Refused a) = n
+unfoldable pub size_after : ℕ → Saved → ℕ
+size_after n (saved.Bytes x) = x
+size_after n (saved.Refused a) = n
 
-pub form-saved : {d d' : Decoder} {elements out last : List ℕ} {n r : ℕ} {m : Saved} → d ≡ d' → Saving d elements out m last
-    → (c : Saved) → m ≡ c → r ≡ savedNumber c → FormSaved d' elements out n r (sizeAfter n c) last
-unfolding savedNumber sizeAfter
-form-saved {d} {elements} {out} {last} {n} {r} same o c e t =
-    subst (λ (x : Decoder). FormSaved x elements out n r (sizeAfter n c) last) same (record {
-      number = t ∙ ap savedNumber (sym e ∙ o.result) ∙ if-ok-ap savedNumber a _ _ ∙ number_is a;
-      length-stored = ap (sizeAfter n) (sym e ∙ o.result) ∙ if-ok-ap (sizeAfter n) a _ _;
+pub form_saved : {d d' : Decoder} {elements out last : List ℕ} {n r : ℕ} {m : Saved} → d ≡ d' → Saving d elements out m last
+    → (c : Saved) → m ≡ c → r ≡ saved_number c → FormSaved d' elements out n r (size_after n c) last
+unfolding saved_number size_after
+form_saved {d} {elements} {out} {last} {n} {r} same o c e t =
+    subst (λ (x : Decoder). FormSaved x elements out n r (size_after n c) last) same (record {
+      number = t ∙ ap saved_number (sym e ∙ o.result) ∙ if_ok_ap saved_number a _ _ ∙ number_is a;
+      length_stored = ap (size_after n) (sym e ∙ o.result) ∙ if_ok_ap (size_after n) a _ _;
       left = o.left;
     })
   where
     a : Answer
-    a = saveRefusal d (length elements) (length out)
+    a = save_refusal d (length elements) (length out)
 
-pub form-loaded : {form elements last : List ℕ} {before : Decoder} {r : ℕ} {m : Loaded} → Loading form elements m last
-    → (c : Loaded) → m ≡ c → r ≡ loadedNumber c → FormLoaded form elements before r (loadedOr before c) last
-form-loaded {before} o c e t = record {
-  number = t ∙ ap loadedNumber (sym e ∙ o.result);
-  stored = ap (loadedOr before) (sym e ∙ o.result);
+pub form_loaded : {form elements last : List ℕ} {before : Decoder} {r : ℕ} {m : Loaded} → Loading form elements m last
+    → (c : Loaded) → m ≡ c → r ≡ loaded_number c → FormLoaded form elements before r (loaded_or before c) last
+form_loaded {before} o c e t = record {
+  number = t ∙ ap loaded_number (sym e ∙ o.result);
+  stored = ap (loaded_or before) (sym e ∙ o.result);
   left = o.left;
 }

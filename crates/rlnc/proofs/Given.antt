@@ -5,23 +5,23 @@ use mathlib.Core.Bool.{Bool}
 use Prim.Native.Nat.{ℕ}
 use Rattle.galois.specs.declared.Quotient.{Quotient}
 use Rattle.block.specs.declared.Count.{Count}
-use Rattle.block.specs.Counts.{countNumber}
+use Rattle.block.specs.Counts.{count_number}
 use Rattle.decoder.specs.declared.Complete.{Complete}
-use Rattle.decoder.specs.Answers.{completeNumber}
-use Rattle.rlnc.specs.Given.{hasByte, byteOr, QuotientGiven, countOr, CountGiven, completeOr, CompleteGiven}
+use Rattle.decoder.specs.Answers.{complete_number}
+use Rattle.rlnc.specs.Given.{has_byte, byte_or, QuotientGiven, count_or, CountGiven, complete_or, CompleteGiven}
 
-pub byte-gave : {q : Quotient} {before : ℕ} {r : Bool} (c : Quotient) → q ≡ c → r ≡ hasByte c → QuotientGiven q before r (byteOr before c)
-byte-gave {before} c e t = record { told = t ∙ ap hasByte (sym e); stored = ap (byteOr before) (sym e) }
+pub byte_gave : {q : Quotient} {before : ℕ} {r : Bool} (c : Quotient) → q ≡ c → r ≡ has_byte c → QuotientGiven q before r (byte_or before c)
+byte_gave {before} c e t = record { told = t ∙ ap has_byte (sym e); stored = ap (byte_or before) (sym e) }
 
-pub byte-given : {q q' : Quotient} {before : ℕ} {r : Bool} {after : ℕ} → q ≡ q' → QuotientGiven q before r after → QuotientGiven q' before r after
-byte-given {before} {r} {after} e g = subst (λ (q : Quotient). QuotientGiven q before r after) e g
+pub byte_given : {q q' : Quotient} {before : ℕ} {r : Bool} {after : ℕ} → q ≡ q' → QuotientGiven q before r after → QuotientGiven q' before r after
+byte_given {before} {r} {after} e g = subst (λ (q : Quotient). QuotientGiven q before r after) e g
 
-pub count-gave : {n : Count} {before r : ℕ} (c : Count) → n ≡ c → r ≡ countNumber c → CountGiven n before r (countOr before c)
-count-gave {before} c e t = record { number = t ∙ ap countNumber (sym e); stored = ap (countOr before) (sym e) }
+pub count_gave : {n : Count} {before r : ℕ} (c : Count) → n ≡ c → r ≡ count_number c → CountGiven n before r (count_or before c)
+count_gave {before} c e t = record { number = t ∙ ap count_number (sym e); stored = ap (count_or before) (sym e) }
 
-pub count-given : {n n' : Count} {before r after : ℕ} → n ≡ n' → CountGiven n before r after → CountGiven n' before r after
-count-given {before} {r} {after} e g = subst (λ (n : Count). CountGiven n before r after) e g
+pub count_given : {n n' : Count} {before r after : ℕ} → n ≡ n' → CountGiven n before r after → CountGiven n' before r after
+count_given {before} {r} {after} e g = subst (λ (n : Count). CountGiven n before r after) e g
 
-pub complete-gave : {b d : Complete} {before : Bool} {r : ℕ} (c : Complete) → b ≡ d → b ≡ c → r ≡ completeNumber c
-    → CompleteGiven d before r (completeOr before c)
-complete-gave {before} c o e t = record { number = t ∙ ap completeNumber (sym e ∙ o); stored = ap (completeOr before) (sym e ∙ o) }
+pub complete_gave : {b d : Complete} {before : Bool} {r : ℕ} (c : Complete) → b ≡ d → b ≡ c → r ≡ complete_number c
+    → CompleteGiven d before r (complete_or before c)
+complete_gave {before} c o e t = record { number = t ∙ ap complete_number (sym e ∙ o); stored = ap (complete_or before) (sym e ∙ o) }

@@ -19,60 +19,60 @@ use Rattle.rlnc.specs.Forms.{FormSaved, FormLoaded}
 use Rattle.rlnc.specs.Streams.{RecordGiven, PieceWritten, SizesGiven}
 
 -- where the outcome of the layer below leaves one content for an answer, so does the entry
-pub one-numbered : {last last' : List ℕ} {a : Answer} {r r' : ℕ} (Outcome : List ℕ → Answer → Type 0)
+pub one_numbered : {last last' : List ℕ} {a : Answer} {r r' : ℕ} (Outcome : List ℕ → Answer → Type 0)
     → ((x y : List ℕ) → Outcome x a → Outcome y a → x ≡ y) → Numbered (Outcome last) a r → Numbered (Outcome last') a r' → (r ≡ r') × (last ≡ last')
-one-numbered {last} {last'} Outcome one x y = (x.number ∙ sym y.number, one last last' x.outcome y.outcome)
+one_numbered {last} {last'} Outcome one x y = (x.number ∙ sym y.number, one last last' x.outcome y.outcome)
 
-pub one-quotient : {q : Quotient} {before after after' : ℕ} {r r' : Bool} → QuotientGiven q before r after → QuotientGiven q before r' after'
+pub one_quotient : {q : Quotient} {before after after' : ℕ} {r r' : Bool} → QuotientGiven q before r after → QuotientGiven q before r' after'
     → (r ≡ r') × (after ≡ after')
-one-quotient x y = (x.told ∙ sym y.told, x.stored ∙ sym y.stored)
+one_quotient x y = (x.told ∙ sym y.told, x.stored ∙ sym y.stored)
 
-pub one-count : {c : Count} {before r r' after after' : ℕ} → CountGiven c before r after → CountGiven c before r' after' → (r ≡ r') × (after ≡ after')
-one-count x y = (x.number ∙ sym y.number, x.stored ∙ sym y.stored)
+pub one_count : {c : Count} {before r r' after after' : ℕ} → CountGiven c before r after → CountGiven c before r' after' → (r ≡ r') × (after ≡ after')
+one_count x y = (x.number ∙ sym y.number, x.stored ∙ sym y.stored)
 
-pub one-complete : {c : Complete} {before after after' : Bool} {r r' : ℕ} → CompleteGiven c before r after → CompleteGiven c before r' after'
+pub one_complete : {c : Complete} {before after after' : Bool} {r r' : ℕ} → CompleteGiven c before r after → CompleteGiven c before r' after'
     → (r ≡ r') × (after ≡ after')
-one-complete x y = (x.number ∙ sym y.number, x.stored ∙ sym y.stored)
+one_complete x y = (x.number ∙ sym y.number, x.stored ∙ sym y.stored)
 
-pub one-encoder : {M k L r r' n n' : ℕ} {bytes block last last' : List ℕ} → EncoderMade M bytes block k L r n last → EncoderMade M bytes block k L r' n' last'
+pub one_encoder : {M k L r r' n n' : ℕ} {bytes block last last' : List ℕ} → EncoderMade M bytes block k L r n last → EncoderMade M bytes block k L r' n' last'
     → (r ≡ r') × (n ≡ n') × (last ≡ last')
-one-encoder x y = (x.number ∙ sym y.number, x.length-stored ∙ sym y.length-stored, x.left ∙ sym y.left)
+one_encoder x y = (x.number ∙ sym y.number, x.length_stored ∙ sym y.length_stored, x.left ∙ sym y.left)
 
-pub one-unpadded : {n k L r r' l l' : ℕ} → UnpaddedMade n k L r l → UnpaddedMade n k L r' l' → (r ≡ r') × (l ≡ l')
-one-unpadded x y = (x.number ∙ sym y.number, x.length-stored ∙ sym y.length-stored)
+pub one_unpadded : {n k L r r' l l' : ℕ} → UnpaddedMade n k L r l → UnpaddedMade n k L r' l' → (r ≡ r') × (l ≡ l')
+one_unpadded x y = (x.number ∙ sym y.number, x.length_stored ∙ sym y.length_stored)
 
-pub one-recoder : {n width k m r r' c c' : ℕ} → RecoderMade n width k m r c → RecoderMade n width k m r' c' → (r ≡ r') × (c ≡ c')
-one-recoder x y = (x.number ∙ sym y.number, x.count-stored ∙ sym y.count-stored)
+pub one_recoder : {n width k m r r' c c' : ℕ} → RecoderMade n width k m r c → RecoderMade n width k m r' c' → (r ≡ r') × (c ≡ c')
+one_recoder x y = (x.number ∙ sym y.number, x.count_stored ∙ sym y.count_stored)
 
-pub one-decoder : {L k rows taken r r' a a' b b' : ℕ} {elements last last' : List ℕ} → DecoderMade L k elements rows taken r a b last
+pub one_decoder : {L k rows taken r r' a a' b b' : ℕ} {elements last last' : List ℕ} → DecoderMade L k elements rows taken r a b last
     → DecoderMade L k elements rows taken r' a' b' last' → (r ≡ r') × (a ≡ a') × (b ≡ b') × (last ≡ last')
-one-decoder x y =
-    (x.number ∙ sym y.number, x.rows-stored ∙ sym y.rows-stored, x.taken-stored ∙ sym y.taken-stored, x.left ∙ sym y.left)
+one_decoder x y =
+    (x.number ∙ sym y.number, x.rows_stored ∙ sym y.rows_stored, x.taken_stored ∙ sym y.taken_stored, x.left ∙ sym y.left)
 
-pub one-taken : {𝓕 : FieldLaws} {d : Decoder} {r r' a a' b b' : ℕ} {elements full last last' : List ℕ} → PieceTaken 𝓕 d elements full r a b last
+pub one_taken : {𝓕 : FieldLaws} {d : Decoder} {r r' a a' b b' : ℕ} {elements full last last' : List ℕ} → PieceTaken 𝓕 d elements full r a b last
     → PieceTaken 𝓕 d elements full r' a' b' last' → (r ≡ r') × (a ≡ a') × (b ≡ b') × (last ≡ last')
-one-taken x y =
-    (x.number ∙ sym y.number, x.rows-stored ∙ sym y.rows-stored, x.taken-stored ∙ sym y.taken-stored, x.left ∙ sym y.left)
+one_taken x y =
+    (x.number ∙ sym y.number, x.rows_stored ∙ sym y.rows_stored, x.taken_stored ∙ sym y.taken_stored, x.left ∙ sym y.left)
 
-pub one-recovered : {M n r r' a a' : ℕ} {d : Decoder} {elements out last last' : List ℕ} → DataRecovered M d elements out n r a last
+pub one_recovered : {M n r r' a a' : ℕ} {d : Decoder} {elements out last last' : List ℕ} → DataRecovered M d elements out n r a last
     → DataRecovered M d elements out n r' a' last' → (r ≡ r') × (a ≡ a') × (last ≡ last')
-one-recovered x y = (x.number ∙ sym y.number, x.length-stored ∙ sym y.length-stored, x.left ∙ sym y.left)
+one_recovered x y = (x.number ∙ sym y.number, x.length_stored ∙ sym y.length_stored, x.left ∙ sym y.left)
 
-pub one-saved : {n r r' a a' : ℕ} {d : Decoder} {elements out last last' : List ℕ} → FormSaved d elements out n r a last
+pub one_saved : {n r r' a a' : ℕ} {d : Decoder} {elements out last last' : List ℕ} → FormSaved d elements out n r a last
     → FormSaved d elements out n r' a' last' → (r ≡ r') × (a ≡ a') × (last ≡ last')
-one-saved x y = (x.number ∙ sym y.number, x.length-stored ∙ sym y.length-stored, x.left ∙ sym y.left)
+one_saved x y = (x.number ∙ sym y.number, x.length_stored ∙ sym y.length_stored, x.left ∙ sym y.left)
 
-pub one-loaded : {form elements last last' : List ℕ} {before after after' : Decoder} {r r' : ℕ} → FormLoaded form elements before r after last
+pub one_loaded : {form elements last last' : List ℕ} {before after after' : Decoder} {r r' : ℕ} → FormLoaded form elements before r after last
     → FormLoaded form elements before r' after' last' → (r ≡ r') × (after ≡ after') × (last ≡ last')
-one-loaded x y = (x.number ∙ sym y.number, x.stored ∙ sym y.stored, x.left ∙ sym y.left)
+one_loaded x y = (x.number ∙ sym y.number, x.stored ∙ sym y.stored, x.left ∙ sym y.left)
 
-pub one-record : {m : Record} {before r r' after after' : ℕ} → RecordGiven m before r after → RecordGiven m before r' after'
+pub one_record : {m : Record} {before r r' after after' : ℕ} → RecordGiven m before r after → RecordGiven m before r' after'
     → (r ≡ r') × (after ≡ after')
-one-record x y = (x.number ∙ sym y.number, x.stored ∙ sym y.stored)
+one_record x y = (x.number ∙ sym y.number, x.stored ∙ sym y.stored)
 
 pub one_written : {l : Listed} {piece out last last' : List ℕ} {r r' : ℕ} → PieceWritten l piece out r last → PieceWritten l piece out r' last'
     → (r ≡ r') × (last ≡ last')
 one_written x y = (x.number ∙ sym y.number, x.left ∙ sym y.left)
 
-pub one-sizes : {l : Listed} {k L r r' a a' b b' : ℕ} → SizesGiven l k L r a b → SizesGiven l k L r' a' b' → (r ≡ r') × (a ≡ a') × (b ≡ b')
-one-sizes x y = (x.number ∙ sym y.number, x.pieces-stored ∙ sym y.pieces-stored, x.length-stored ∙ sym y.length-stored)
+pub one_sizes : {l : Listed} {k L r r' a a' b b' : ℕ} → SizesGiven l k L r a b → SizesGiven l k L r' a' b' → (r ≡ r') × (a ≡ a') × (b ≡ b')
+one_sizes x y = (x.number ∙ sym y.number, x.pieces_stored ∙ sym y.pieces_stored, x.length_stored ∙ sym y.length_stored)

@@ -1,30 +1,30 @@
 -- Saving and loading a decoder that crosses as its numbers.
 use Rattle.std.specs.Prelude.{◌≡◌, List, ◌++◌, ℕ, length, drop}
 use Rattle.answers.specs.Number.{number_of}
-use Rattle.block.specs.Refusal.{ifOk}
+use Rattle.block.specs.Refusal.{if_ok}
 use Rattle.decoder.specs.declared.Decoder.{Decoder}
-use Rattle.decoder.specs.Records.{k_of, LOf}
+use Rattle.decoder.specs.Records.{k_of, l_of}
 use Rattle.stored.specs.declared.Loaded.{Loaded}
 use Rattle.stored.specs.declared.Loaded.TheVariants as loaded
-use Rattle.stored.specs.Forms.{sizeGeometry}
-use Rattle.stored.specs.Entries.{saveRefusal, savedForm, loadedNumber, loadRefusal, geometryIn, loadResult, loadMatrix}
+use Rattle.stored.specs.Forms.{size_geometry}
+use Rattle.stored.specs.Entries.{save_refusal, saved_form, loaded_number, load_refusal, geometry_in, load_result, load_matrix}
 
 -- the form of a decoder of listed sizes
-abbrev pub formFor : Decoder → List ℕ → List ℕ
-formFor d elements = savedForm (sizeGeometry (k_of d) (LOf d)) d elements
+abbrev pub form_for : Decoder → List ℕ → List ℕ
+form_for d elements = saved_form (size_geometry (k_of d) (l_of d)) d elements
 
 -- a decoder saved: `n` is the length that stood there
 pub record FormSaved (d : Decoder) (elements out : List ℕ) (n r n' : ℕ) (last : List ℕ) : Type 0 where
-  pub number : r ≡ number_of (saveRefusal d (length elements) (length out))
-  pub length-stored : n' ≡ ifOk (saveRefusal d (length elements) (length out)) (length (formFor d elements)) n
-  pub left : last ≡ ifOk (saveRefusal d (length elements) (length out)) (formFor d elements ++ drop (length (formFor d elements)) out) out
+  pub number : r ≡ number_of (save_refusal d (length elements) (length out))
+  pub length_stored : n' ≡ if_ok (save_refusal d (length elements) (length out)) (length (form_for d elements)) n
+  pub left : last ≡ if_ok (save_refusal d (length elements) (length out)) (form_for d elements ++ drop (length (form_for d elements)) out) out
 
 -- the decoder loaded, or that whose numbers stood there
-unfoldable pub loadedOr : Decoder → Loaded → Decoder
-loadedOr before (loaded.Of d) = d
-loadedOr before (loaded.Refused a) = before
+unfoldable pub loaded_or : Decoder → Loaded → Decoder
+loaded_or before (loaded.Of d) = d
+loaded_or before (loaded.Refused a) = before
 
 pub record FormLoaded (form elements : List ℕ) (before : Decoder) (r : ℕ) (after : Decoder) (last : List ℕ) : Type 0 where
-  pub number : r ≡ loadedNumber (loadResult (geometryIn form) form (loadRefusal form (length elements)))
-  pub stored : after ≡ loadedOr before (loadResult (geometryIn form) form (loadRefusal form (length elements)))
-  pub left : last ≡ ifOk (loadRefusal form (length elements)) (loadMatrix (geometryIn form) form elements) elements
+  pub number : r ≡ loaded_number (load_result (geometry_in form) form (load_refusal form (length elements)))
+  pub stored : after ≡ loaded_or before (load_result (geometry_in form) form (load_refusal form (length elements)))
+  pub left : last ≡ if_ok (load_refusal form (length elements)) (load_matrix (geometry_in form) form elements) elements

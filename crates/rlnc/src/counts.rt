@@ -2,7 +2,7 @@
 ghost use Rattle.std.specs.Prelude.{◌+◌, ◌-◌};
 ghost use Rattle.block.specs.Counts.{counted};
 ghost use Rattle.decoder.specs.Records.{sound};
-ghost use Rattle.decoder.specs.Entries.{decoderOf, completed};
+ghost use Rattle.decoder.specs.Entries.{decoder_of, completed};
 ghost use Rattle.rlnc.specs.Given.{CountGiven, CompleteGiven};
 
 use crate::decode::decoder_of;
@@ -18,7 +18,7 @@ pub extern "C" fn rlnc_decoder_get_num_pieces_coded_together(
     received_piece_count: usize,
     count: &mut usize,
 ) -> u8
-    ensures { CountGiven (counted (sound (decoderOf required_piece_count piece_byte_len useful_piece_count received_piece_count)) required_piece_count) count.old result count.new }
+    ensures { CountGiven (counted (sound (decoder_of required_piece_count piece_byte_len useful_piece_count received_piece_count)) required_piece_count) count.old result count.new }
 {
     let decoder = decoder_of(
         piece_byte_len,
@@ -37,7 +37,7 @@ pub extern "C" fn rlnc_decoder_get_piece_byte_len(
     received_piece_count: usize,
     count: &mut usize,
 ) -> u8
-    ensures { CountGiven (counted (sound (decoderOf required_piece_count piece_byte_len useful_piece_count received_piece_count)) piece_byte_len) count.old result count.new }
+    ensures { CountGiven (counted (sound (decoder_of required_piece_count piece_byte_len useful_piece_count received_piece_count)) piece_byte_len) count.old result count.new }
 {
     let decoder = decoder_of(
         piece_byte_len,
@@ -56,7 +56,7 @@ pub extern "C" fn rlnc_decoder_get_full_coded_piece_byte_len(
     received_piece_count: usize,
     count: &mut usize,
 ) -> u8
-    ensures { CountGiven (counted (sound (decoderOf required_piece_count piece_byte_len useful_piece_count received_piece_count)) (required_piece_count + piece_byte_len)) count.old result count.new }
+    ensures { CountGiven (counted (sound (decoder_of required_piece_count piece_byte_len useful_piece_count received_piece_count)) (required_piece_count + piece_byte_len)) count.old result count.new }
 {
     let decoder = decoder_of(
         piece_byte_len,
@@ -75,7 +75,7 @@ pub extern "C" fn rlnc_decoder_get_received_piece_count(
     received_piece_count: usize,
     count: &mut usize,
 ) -> u8
-    ensures { CountGiven (counted (sound (decoderOf required_piece_count piece_byte_len useful_piece_count received_piece_count)) received_piece_count) count.old result count.new }
+    ensures { CountGiven (counted (sound (decoder_of required_piece_count piece_byte_len useful_piece_count received_piece_count)) received_piece_count) count.old result count.new }
 {
     let decoder = decoder_of(
         piece_byte_len,
@@ -94,7 +94,7 @@ pub extern "C" fn rlnc_decoder_get_useful_piece_count(
     received_piece_count: usize,
     count: &mut usize,
 ) -> u8
-    ensures { CountGiven (counted (sound (decoderOf required_piece_count piece_byte_len useful_piece_count received_piece_count)) useful_piece_count) count.old result count.new }
+    ensures { CountGiven (counted (sound (decoder_of required_piece_count piece_byte_len useful_piece_count received_piece_count)) useful_piece_count) count.old result count.new }
 {
     let decoder = decoder_of(
         piece_byte_len,
@@ -113,7 +113,7 @@ pub extern "C" fn rlnc_decoder_get_remaining_piece_count(
     received_piece_count: usize,
     count: &mut usize,
 ) -> u8
-    ensures { CountGiven (counted (sound (decoderOf required_piece_count piece_byte_len useful_piece_count received_piece_count)) (required_piece_count - useful_piece_count)) count.old result count.new }
+    ensures { CountGiven (counted (sound (decoder_of required_piece_count piece_byte_len useful_piece_count received_piece_count)) (required_piece_count - useful_piece_count)) count.old result count.new }
 {
     let decoder = decoder_of(
         piece_byte_len,
@@ -132,7 +132,7 @@ pub extern "C" fn rlnc_decoder_is_already_decoded(
     received_piece_count: usize,
     complete: &mut bool,
 ) -> u8
-    ensures { CompleteGiven (completed (decoderOf required_piece_count piece_byte_len useful_piece_count received_piece_count)) complete.old result complete.new }
+    ensures { CompleteGiven (completed (decoder_of required_piece_count piece_byte_len useful_piece_count received_piece_count)) complete.old result complete.new }
 {
     let decoder = decoder_of(
         piece_byte_len,

@@ -2,7 +2,7 @@
 ghost use Rattle.std.specs.Prelude.{◌≡◌};
 ghost use Rattle.gf256.proofs.Known.{fips};
 ghost use Rattle.block.specs.Padding.{marker};
-ghost use Rattle.decoder.specs.Entries.{decoderOf};
+ghost use Rattle.decoder.specs.Entries.{decoder_of};
 ghost use Rattle.rlnc.specs.Records.{DecoderMade, PieceTaken, DataRecovered};
 
 use answers::Answer;
@@ -16,7 +16,7 @@ pub(crate) fn decoder_of(
     useful_piece_count: usize,
     received_piece_count: usize,
 ) -> Decoder
-    ensures { result ≡ decoderOf required_piece_count piece_byte_len useful_piece_count received_piece_count }
+    ensures { result ≡ decoder_of required_piece_count piece_byte_len useful_piece_count received_piece_count }
 {
     Decoder {
         required_piece_count,
@@ -56,7 +56,7 @@ pub extern "C" fn rlnc_decoder_decode(
     useful_piece_count: &mut usize,
     received_piece_count: &mut usize,
 ) -> u8
-    ensures { PieceTaken fips (decoderOf required_piece_count piece_byte_len useful_piece_count.old received_piece_count.old) elements.old full_coded_piece.now result useful_piece_count.new received_piece_count.new elements.new }
+    ensures { PieceTaken fips (decoder_of required_piece_count piece_byte_len useful_piece_count.old received_piece_count.old) elements.old full_coded_piece.now result useful_piece_count.new received_piece_count.new elements.new }
 {
     let decoder = Decoder {
         required_piece_count,
@@ -90,7 +90,7 @@ pub extern "C" fn rlnc_decoder_get_decoded_data(
     data: &mut [u8],
     data_len: &mut usize,
 ) -> u8
-    ensures { DataRecovered marker (decoderOf required_piece_count piece_byte_len useful_piece_count received_piece_count) elements.now «data».old data_len.old result data_len.new «data».new }
+    ensures { DataRecovered marker (decoder_of required_piece_count piece_byte_len useful_piece_count received_piece_count) elements.now «data».old data_len.old result data_len.new «data».new }
 {
     let decoder = Decoder {
         required_piece_count,

@@ -4,10 +4,10 @@ ghost use Rattle.gf256.proofs.Known.{fips};
 ghost use Rattle.block.specs.Padding.{marker};
 ghost use Rattle.block.specs.Sizes.{sized};
 ghost use Rattle.block.specs.Counts.{counted};
-ghost use Rattle.encoder.specs.Entries.{codeRefusal, Coded, codeWholeRefusal, CodedWhole};
+ghost use Rattle.encoder.specs.Entries.{code_refusal, Coded, code_whole_refusal, CodedWhole};
 ghost use Rattle.rlnc.specs.Numbered.{Numbered};
 ghost use Rattle.rlnc.specs.Given.{CountGiven};
-ghost use Rattle.rlnc.specs.Records.{encoderOf, EncoderMade, UnpaddedMade};
+ghost use Rattle.rlnc.specs.Records.{encoder_of, EncoderMade, UnpaddedMade};
 
 use crate::give::give_count;
 use answers::Answer;
@@ -104,7 +104,7 @@ pub extern "C" fn rlnc_encoder_code_with_coding_vector(
     coding_vector: &[u8],
     coded_data: &mut [u8],
 ) -> u8
-    ensures { Numbered (λ a. Coded fips (encoderOf piece_count piece_byte_len) block.now coding_vector.now coded_data.old a coded_data.new) (codeRefusal (encoderOf piece_count piece_byte_len) (length block.now) (length coding_vector.now) (length coded_data.old)) result }
+    ensures { Numbered (λ a. Coded fips (encoder_of piece_count piece_byte_len) block.now coding_vector.now coded_data.old a coded_data.new) (code_refusal (encoder_of piece_count piece_byte_len) (length block.now) (length coding_vector.now) (length coded_data.old)) result }
 {
     let encoder = Encoder {
         piece_count,
@@ -123,7 +123,7 @@ pub extern "C" fn rlnc_encoder_code_with_buf(
     coding_vector: &[u8],
     full_coded_piece: &mut [u8],
 ) -> u8
-    ensures { Numbered (λ a. CodedWhole fips (encoderOf piece_count piece_byte_len) block.now coding_vector.now full_coded_piece.old a full_coded_piece.new) (codeWholeRefusal (encoderOf piece_count piece_byte_len) (length block.now) (length coding_vector.now) (length full_coded_piece.old)) result }
+    ensures { Numbered (λ a. CodedWhole fips (encoder_of piece_count piece_byte_len) block.now coding_vector.now full_coded_piece.old a full_coded_piece.new) (code_whole_refusal (encoder_of piece_count piece_byte_len) (length block.now) (length coding_vector.now) (length full_coded_piece.old)) result }
 {
     let encoder = Encoder {
         piece_count,

@@ -2,9 +2,9 @@
 ghost use Rattle.std.specs.Prelude.{◌≡◌, ◌*◌, leb, length};
 ghost use Rattle.answers.specs.declared.Answer.TheVariants.{Ok, BadState};
 ghost use Rattle.linear.specs.Choice.{pick};
-ghost use Rattle.galois.specs.Quotient.{inverseOf, quotient_of};
+ghost use Rattle.galois.specs.Quotient.{inverse_of, quotient_of};
 ghost use Rattle.gf256.proofs.Known.{fips};
-ghost use Rattle.rows.specs.Outcomes.{lengthsAnswer, partsAnswer, Scaled, Summed, Added, PartAdded};
+ghost use Rattle.rows.specs.Outcomes.{lengths_answer, parts_answer, Scaled, Summed, Added, PartAdded};
 ghost use Rattle.rows.specs.Combining.{Combined};
 ghost use Rattle.rlnc.specs.Numbered.{Numbered};
 ghost use Rattle.rlnc.specs.Given.{QuotientGiven};
@@ -37,7 +37,7 @@ fn give_byte(quotient: Quotient, byte: &mut u8) -> bool
 // The inverse: zero has none.
 #[unsafe(no_mangle)]
 pub extern "C" fn rlnc_gf256_inv(a: u8, inverse: &mut u8) -> bool
-    ensures { QuotientGiven (inverseOf fips.inv a) inverse.old result inverse.new }
+    ensures { QuotientGiven (inverse_of fips.inv a) inverse.old result inverse.new }
 {
     give_byte(Field::Fips197.inv(a), inverse)
 }
@@ -59,7 +59,7 @@ pub extern "C" fn rlnc_inplace_mul_vec_by_scalar(vec: &mut [u8], scalar: u8)
 
 #[unsafe(no_mangle)]
 pub extern "C" fn rlnc_inplace_add_vectors(dst: &mut [u8], src: &[u8]) -> u8
-    ensures { Numbered (λ a. Summed src.now dst.old a dst.new) (lengthsAnswer src.now dst.old) result }
+    ensures { Numbered (λ a. Summed src.now dst.old a dst.new) (lengths_answer src.now dst.old) result }
 {
     rows::inplace_add_vectors(dst, src).number()
 }
@@ -70,7 +70,7 @@ pub extern "C" fn rlnc_mul_vec_by_scalar_then_add_into_vec(
     src: &[u8],
     scalar: u8,
 ) -> u8
-    ensures { Numbered (λ a. Added fips scalar src.now dst.old a dst.new) (lengthsAnswer src.now dst.old) result }
+    ensures { Numbered (λ a. Added fips scalar src.now dst.old a dst.new) (lengths_answer src.now dst.old) result }
 {
     rows::mul_vec_by_scalar_then_add_into_vec(Field::Fips197, dst, src, scalar).number()
 }
@@ -83,7 +83,7 @@ pub extern "C" fn rlnc_mul_part_by_scalar_then_add_into_part(
     len: usize,
     scalar: u8,
 ) -> u8
-    ensures { Numbered (λ a. PartAdded fips scalar (record { from = from; to = to; len = len }) buffer.old a buffer.new) (partsAnswer (record { from = from; to = to; len = len }) buffer.old) result }
+    ensures { Numbered (λ a. PartAdded fips scalar (record { from = from; to = to; len = len }) buffer.old a buffer.new) (parts_answer (record { from = from; to = to; len = len }) buffer.old) result }
 {
     rows::mul_part_by_scalar_then_add_into_part(
         Field::Fips197,

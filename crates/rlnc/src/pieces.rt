@@ -1,9 +1,9 @@
 // The piece stream. A geometry crosses as the kind of its pieces, and what has been seen so far as the kind of the pieces before, 0 where
 // there were none.
 ghost use Rattle.std.specs.Prelude.{◌≡◌};
-ghost use Rattle.stream.specs.Geometries.{geometryOf};
-ghost use Rattle.stream.specs.Records.{kindRecord, recordAt};
-ghost use Rattle.rlnc.specs.Streams.{listedIn, earlierOf, read_by, RecordGiven, PieceWritten, SizesGiven};
+ghost use Rattle.stream.specs.Geometries.{geometry_of};
+ghost use Rattle.stream.specs.Records.{kind_record, record_at};
+ghost use Rattle.rlnc.specs.Streams.{listed_in, earlier_of, read_by, RecordGiven, PieceWritten, SizesGiven};
 
 use answers::Answer;
 use stream::{Geometry, Record, Seen};
@@ -23,7 +23,7 @@ enum Earlier {
 }
 
 fn of_kind(kind: u8) -> Listed
-    ensures { result ≡ listedIn (geometryOf kind) }
+    ensures { result ≡ listed_in (geometry_of kind) }
 {
     match kind {
         0x11 => Listed::Of(Geometry::Of3By2),
@@ -34,7 +34,7 @@ fn of_kind(kind: u8) -> Listed
 }
 
 fn seen_by(kind: u8) -> Earlier
-    ensures { result ≡ earlierOf kind }
+    ensures { result ≡ earlier_of kind }
 {
     if kind == 0 {
         return Earlier::Of(Seen::Nothing);
@@ -64,7 +64,7 @@ fn give_record(found: Record, kind: &mut u8) -> u8
 
 #[unsafe(no_mangle)]
 pub extern "C" fn rlnc_stream_read_kind(so_far: u8, next: u8, behind: usize, kind: &mut u8) -> u8
-    ensures { RecordGiven (read_by (λ s. kindRecord s next behind) (earlierOf so_far)) kind.old result kind.new }
+    ensures { RecordGiven (read_by (λ s. kind_record s next behind) (earlier_of so_far)) kind.old result kind.new }
 {
     let Earlier::Of(seen) = seen_by(so_far) else {
         return Answer::BadState.number();
@@ -74,7 +74,7 @@ pub extern "C" fn rlnc_stream_read_kind(so_far: u8, next: u8, behind: usize, kin
 
 #[unsafe(no_mangle)]
 pub extern "C" fn rlnc_stream_read(so_far: u8, bytes: &[u8], kind: &mut u8) -> u8
-    ensures { RecordGiven (read_by (λ s. recordAt s bytes.now) (earlierOf so_far)) kind.old result kind.new }
+    ensures { RecordGiven (read_by (λ s. record_at s bytes.now) (earlier_of so_far)) kind.old result kind.new }
 {
     let Earlier::Of(seen) = seen_by(so_far) else {
         return Answer::BadState.number();
@@ -84,7 +84,7 @@ pub extern "C" fn rlnc_stream_read(so_far: u8, bytes: &[u8], kind: &mut u8) -> u
 
 #[unsafe(no_mangle)]
 pub extern "C" fn rlnc_stream_write(kind: u8, piece: &[u8], out: &mut [u8]) -> u8
-    ensures { PieceWritten (listedIn (geometryOf kind)) piece.now out.old result out.new }
+    ensures { PieceWritten (listed_in (geometry_of kind)) piece.now out.old result out.new }
 {
     let Listed::Of(g) = of_kind(kind) else {
         return Answer::UnknownKind.number();
@@ -99,7 +99,7 @@ pub extern "C" fn rlnc_stream_sizes(
     piece_count: &mut usize,
     piece_byte_len: &mut usize,
 ) -> u8
-    ensures { SizesGiven (listedIn (geometryOf kind)) piece_count.old piece_byte_len.old result piece_count.new piece_byte_len.new }
+    ensures { SizesGiven (listed_in (geometry_of kind)) piece_count.old piece_byte_len.old result piece_count.new piece_byte_len.new }
 {
     let Listed::Of(g) = of_kind(kind) else {
         return Answer::UnknownKind.number();

@@ -2,10 +2,10 @@
 ghost use Rattle.std.specs.Prelude.{◌-◌, length};
 ghost use Rattle.gf256.proofs.Known.{fips};
 ghost use Rattle.block.specs.Counts.{counted};
-ghost use Rattle.recoder.specs.Entries.{sound, recodeRefusal, Recoded};
+ghost use Rattle.recoder.specs.Entries.{sound, recode_refusal, Recoded};
 ghost use Rattle.rlnc.specs.Numbered.{Numbered};
 ghost use Rattle.rlnc.specs.Given.{CountGiven};
-ghost use Rattle.rlnc.specs.Records.{recoderOf, RecoderMade};
+ghost use Rattle.rlnc.specs.Records.{recoder_of, RecoderMade};
 
 use crate::give::give_count;
 use answers::Answer;
@@ -38,7 +38,7 @@ pub extern "C" fn rlnc_recoder_get_original_num_pieces_coded_together(
     num_pieces_coded_together: usize,
     count: &mut usize,
 ) -> u8
-    ensures { CountGiven (counted (sound (recoderOf num_pieces_received full_coded_piece_byte_len num_pieces_coded_together)) num_pieces_coded_together) count.old result count.new }
+    ensures { CountGiven (counted (sound (recoder_of num_pieces_received full_coded_piece_byte_len num_pieces_coded_together)) num_pieces_coded_together) count.old result count.new }
 {
     let recoder = Recoder {
         num_pieces_received,
@@ -55,7 +55,7 @@ pub extern "C" fn rlnc_recoder_get_num_pieces_recoded_together(
     num_pieces_coded_together: usize,
     count: &mut usize,
 ) -> u8
-    ensures { CountGiven (counted (sound (recoderOf num_pieces_received full_coded_piece_byte_len num_pieces_coded_together)) num_pieces_received) count.old result count.new }
+    ensures { CountGiven (counted (sound (recoder_of num_pieces_received full_coded_piece_byte_len num_pieces_coded_together)) num_pieces_received) count.old result count.new }
 {
     let recoder = Recoder {
         num_pieces_received,
@@ -72,7 +72,7 @@ pub extern "C" fn rlnc_recoder_get_piece_byte_len(
     num_pieces_coded_together: usize,
     count: &mut usize,
 ) -> u8
-    ensures { CountGiven (counted (sound (recoderOf num_pieces_received full_coded_piece_byte_len num_pieces_coded_together)) (full_coded_piece_byte_len - num_pieces_coded_together)) count.old result count.new }
+    ensures { CountGiven (counted (sound (recoder_of num_pieces_received full_coded_piece_byte_len num_pieces_coded_together)) (full_coded_piece_byte_len - num_pieces_coded_together)) count.old result count.new }
 {
     let recoder = Recoder {
         num_pieces_received,
@@ -89,7 +89,7 @@ pub extern "C" fn rlnc_recoder_get_full_coded_piece_byte_len(
     num_pieces_coded_together: usize,
     count: &mut usize,
 ) -> u8
-    ensures { CountGiven (counted (sound (recoderOf num_pieces_received full_coded_piece_byte_len num_pieces_coded_together)) full_coded_piece_byte_len) count.old result count.new }
+    ensures { CountGiven (counted (sound (recoder_of num_pieces_received full_coded_piece_byte_len num_pieces_coded_together)) full_coded_piece_byte_len) count.old result count.new }
 {
     let recoder = Recoder {
         num_pieces_received,
@@ -108,7 +108,7 @@ pub extern "C" fn rlnc_recoder_recode_with_buf(
     recoding_vector: &[u8],
     full_recoded_piece: &mut [u8],
 ) -> u8
-    ensures { Numbered (λ a. Recoded fips (recoderOf num_pieces_received full_coded_piece_byte_len num_pieces_coded_together) pieces.now recoding_vector.now full_recoded_piece.old a full_recoded_piece.new) (recodeRefusal (recoderOf num_pieces_received full_coded_piece_byte_len num_pieces_coded_together) (length pieces.now) (length recoding_vector.now) (length full_recoded_piece.old)) result }
+    ensures { Numbered (λ a. Recoded fips (recoder_of num_pieces_received full_coded_piece_byte_len num_pieces_coded_together) pieces.now recoding_vector.now full_recoded_piece.old a full_recoded_piece.new) (recode_refusal (recoder_of num_pieces_received full_coded_piece_byte_len num_pieces_coded_together) (length pieces.now) (length recoding_vector.now) (length full_recoded_piece.old)) result }
 {
     let recoder = Recoder {
         num_pieces_received,

@@ -1,5 +1,5 @@
 // The stored form of a decoder.
-ghost use Rattle.decoder.specs.Entries.{decoderOf};
+ghost use Rattle.decoder.specs.Entries.{decoder_of};
 ghost use Rattle.rlnc.specs.Forms.{FormSaved, FormLoaded};
 
 use crate::decode::decoder_of;
@@ -16,7 +16,7 @@ pub extern "C" fn rlnc_stored_save(
     form: &mut [u8],
     form_len: &mut usize,
 ) -> u8
-    ensures { FormSaved (decoderOf required_piece_count piece_byte_len useful_piece_count received_piece_count) elements.now form.old form_len.old result form_len.new form.new }
+    ensures { FormSaved (decoder_of required_piece_count piece_byte_len useful_piece_count received_piece_count) elements.now form.old form_len.old result form_len.new form.new }
 {
     let decoder = decoder_of(
         piece_byte_len,
@@ -43,7 +43,7 @@ pub extern "C" fn rlnc_stored_load(
     useful_piece_count: &mut usize,
     received_piece_count: &mut usize,
 ) -> u8
-    ensures { FormLoaded form.now elements.old (decoderOf required_piece_count.old piece_byte_len.old useful_piece_count.old received_piece_count.old) result (decoderOf required_piece_count.new piece_byte_len.new useful_piece_count.new received_piece_count.new) elements.new }
+    ensures { FormLoaded form.now elements.old (decoder_of required_piece_count.old piece_byte_len.old useful_piece_count.old received_piece_count.old) result (decoder_of required_piece_count.new piece_byte_len.new useful_piece_count.new received_piece_count.new) elements.new }
 {
     let loaded = stored::load(form, elements);
     match loaded {

@@ -10,20 +10,20 @@ use lib.ListN.{length, get_or, take, replicate, length-replicate, length-map}
 use lib.Seq.{ext_get_or, take_all}
 use Rattle.galois.specs.Gf.{◌⊕◌}
 use Rattle.galois.specs.FieldLaws.{FieldLaws}
-use Rattle.galois.proofs.Sum.{⊕-zero, ⊕-assoc, ⊕-middle, ⊕-above, digit}
-use Rattle.galois.proofs.Field.{mul-zero, zero-mul, one-mul, ⊕-mul}
+use Rattle.galois.proofs.Sum.{⊕_zero, ⊕_assoc, ⊕_middle, ⊕_above, digit}
+use Rattle.galois.proofs.Field.{mul_zero, zero_mul, one_mul, ⊕_mul}
 use Rattle.linear.specs.All.{All}
-use Rattle.linear.specs.Rows.{scaleRow}
+use Rattle.linear.specs.Rows.{scale_row}
 use Rattle.linear.specs.Buffer.{rows_of}
 use Rattle.linear.specs.Pieces.{column, dot, combine}
-use Rattle.linear.proofs.All.{zeros-entry}
-use Rattle.linear.proofs.Sums.{length-scale, scale-entry}
-use Rattle.linear.proofs.Blocks.{column-entry}
-use Rattle.linear.proofs.Buffer.{sizes-of, entry_at}
-use Rattle.linear.proofs.Coding.{length-combine, combine-entry}
-use Rattle.rows.specs.Outcomes.{addRow}
-use Rattle.rows.specs.Chosen.{sumChosen}
-use Rattle.rows.proofs.RowLaws.{length-sum, getD-sum}
+use Rattle.linear.proofs.All.{zeros_entry}
+use Rattle.linear.proofs.Sums.{length_scale, scale_entry}
+use Rattle.linear.proofs.Blocks.{column_entry}
+use Rattle.linear.proofs.Buffer.{sizes_of, entry_at}
+use Rattle.linear.proofs.Coding.{length_combine, combine_entry}
+use Rattle.rows.specs.Outcomes.{add_row}
+use Rattle.rows.specs.Chosen.{sum_chosen}
+use Rattle.rows.proofs.RowLaws.{length_sum, get_or_sum}
 
 -- ---- the numbers without their b low bits, and bit b of each
 
@@ -33,136 +33,136 @@ above b cs = map (λ n. n / 2 ^ b) cs
 abbrev pub bits : ℕ → List ℕ → List ℕ
 bits b cs = map (λ n. n / 2 ^ b % 2) cs
 
-pub above-none : (cs : List ℕ) → above 0 cs ≡ cs
-above-none [] = refl
-above-none (c ∷ cs) = ap₂ (λ (n : ℕ) (l : List ℕ). n ∷ l) (div-one c) (above-none cs)
+pub above_none : (cs : List ℕ) → above 0 cs ≡ cs
+above_none [] = refl
+above_none (c ∷ cs) = ap₂ (λ (n : ℕ) (l : List ℕ). n ∷ l) (div-one c) (above_none cs)
 
 bit_at : (b : ℕ) (cs : List ℕ) (j : ℕ) → get_or (bits b cs) j 0 ≡ get_or cs j 0 / 2 ^ b % 2
 bit_at b [] j = sym (ap (λ (n : ℕ). n % 2) (zero-div (2 ^ b)))
 bit_at b (c ∷ cs) zero = refl
 bit_at b (c ∷ cs) (suc j) = bit_at b cs j
 
-above-top : (cs : List ℕ) → ((i : ℕ) → get_or cs i 0 < 256) → above 7 cs ≡ bits 7 cs
-above-top [] h = refl
-above-top (c ∷ cs) h =
+above_top : (cs : List ℕ) → ((i : ℕ) → get_or cs i 0 < 256) → above 7 cs ≡ bits 7 cs
+above_top [] h = refl
+above_top (c ∷ cs) h =
     let top : c / 128 ≡ c / 128 % 2 = omega (arith, h 0) in
-    ap₂ (λ (n : ℕ) (l : List ℕ). n ∷ l) top (above-top cs (λ i. h (suc i)))
+    ap₂ (λ (n : ℕ) (l : List ℕ). n ∷ l) top (above_top cs (λ i. h (suc i)))
 
 module _ (𝓕 : FieldLaws) where
-  by-half : (c y : ℕ) → c < 256 → 𝓕.mul c y ≡ 𝓕.mul 2 (𝓕.mul (c / 2) y) ⊕ 𝓕.mul (c % 2) y
-  by-half c y h =
+  by_half : (c y : ℕ) → c < 256 → 𝓕.mul c y ≡ 𝓕.mul 2 (𝓕.mul (c / 2) y) ⊕ 𝓕.mul (c % 2) y
+  by_half c y h =
       let parts : c ≡ c / 2 * 2 + c % 2 = omega arith in
       let low : c / 2 < 128 = omega arith in
-      ap (λ (n : ℕ). 𝓕.mul n y) (parts ∙ sym (⊕-above (c / 2) 1 (c % 2) (digit c))) ∙ ⊕-mul 𝓕 (c / 2 * 2) (c % 2) y
-      ∙ ap (λ (n : ℕ). n ⊕ 𝓕.mul (c % 2) y) (ap (λ (n : ℕ). 𝓕.mul n y) (sym (𝓕.mul-x (c / 2) low)) ∙ 𝓕.mul_assoc 2 (c / 2) y)
+      ap (λ (n : ℕ). 𝓕.mul n y) (parts ∙ sym (⊕_above (c / 2) 1 (c % 2) (digit c))) ∙ ⊕_mul 𝓕 (c / 2 * 2) (c % 2) y
+      ∙ ap (λ (n : ℕ). n ⊕ 𝓕.mul (c % 2) y) (ap (λ (n : ℕ). 𝓕.mul n y) (sym (𝓕.mul_x (c / 2) low)) ∙ 𝓕.mul_assoc 2 (c / 2) y)
 
-  dot-half : (b : ℕ) (cs v : List ℕ) → ((i : ℕ) → get_or cs i 0 < 256)
+  dot_half : (b : ℕ) (cs v : List ℕ) → ((i : ℕ) → get_or cs i 0 < 256)
       → dot 𝓕 (above b cs) v ≡ 𝓕.mul 2 (dot 𝓕 (above (suc b) cs) v) ⊕ dot 𝓕 (bits b cs) v
   unfolding dot
-  dot-half b [] v h = sym (ap (λ (n : ℕ). n ⊕ 0) (mul-zero 𝓕 2))
-  dot-half b (c ∷ cs) [] h = sym (ap (λ (n : ℕ). n ⊕ 0) (mul-zero 𝓕 2))
-  dot-half b (c ∷ cs) (y ∷ v) h =
+  dot_half b [] v h = sym (ap (λ (n : ℕ). n ⊕ 0) (mul_zero 𝓕 2))
+  dot_half b (c ∷ cs) [] h = sym (ap (λ (n : ℕ). n ⊕ 0) (mul_zero 𝓕 2))
+  dot_half b (c ∷ cs) (y ∷ v) h =
       let small : c / 2 ^ b < 256 = omega (arith, h 0, div-le_self c (2 ^ b)) in
       let half : c / 2 ^ b / 2 ≡ c / 2 ^ suc b = div-div-eq-div-mul c (2 ^ b) 2 ∙ ap (λ (n : ℕ). c / n) (sym (pow-suc 2 b)) in
-      ap₂ (λ (m n : ℕ). m ⊕ n) (by-half (c / 2 ^ b) y small) (dot-half b cs v (λ i. h (suc i)))
-      ∙ ⊕-middle (𝓕.mul 2 (𝓕.mul (c / 2 ^ b / 2) y)) (𝓕.mul (c / 2 ^ b % 2) y) (𝓕.mul 2 (dot 𝓕 (above (suc b) cs) v)) (dot 𝓕 (bits b cs) v)
+      ap₂ (λ (m n : ℕ). m ⊕ n) (by_half (c / 2 ^ b) y small) (dot_half b cs v (λ i. h (suc i)))
+      ∙ ⊕_middle (𝓕.mul 2 (𝓕.mul (c / 2 ^ b / 2) y)) (𝓕.mul (c / 2 ^ b % 2) y) (𝓕.mul 2 (dot 𝓕 (above (suc b) cs) v)) (dot 𝓕 (bits b cs) v)
       ∙ ap (λ (n : ℕ). n ⊕ (𝓕.mul (c / 2 ^ b % 2) y ⊕ dot 𝓕 (bits b cs) v))
-      (sym (𝓕.mul-⊕ 2 (𝓕.mul (c / 2 ^ b / 2) y) (dot 𝓕 (above (suc b) cs) v))
+      (sym (𝓕.mul_⊕ 2 (𝓕.mul (c / 2 ^ b / 2) y) (dot 𝓕 (above (suc b) cs) v))
       ∙ ap (λ (n : ℕ). 𝓕.mul 2 (𝓕.mul n y ⊕ dot 𝓕 (above (suc b) cs) v)) half)
 
   -- one product more
-  dot-next : (j : ℕ) (u v : List ℕ) → dot 𝓕 (take (suc j) u) v ≡ dot 𝓕 (take j u) v ⊕ 𝓕.mul (get_or u j 0) (get_or v j 0)
+  dot_next : (j : ℕ) (u v : List ℕ) → dot 𝓕 (take (suc j) u) v ≡ dot 𝓕 (take j u) v ⊕ 𝓕.mul (get_or u j 0) (get_or v j 0)
   unfolding dot
-  dot-next zero [] v = sym (zero-mul 𝓕 (get_or v 0 0))
-  dot-next (suc j) [] v = sym (zero-mul 𝓕 (get_or v (suc j) 0))
-  dot-next zero (x ∷ u) [] = sym (mul-zero 𝓕 x)
-  dot-next zero (x ∷ u) (y ∷ v) = ⊕-zero (𝓕.mul x y)
-  dot-next (suc j) (x ∷ u) [] = sym (mul-zero 𝓕 (get_or u j 0))
-  dot-next (suc j) (x ∷ u) (y ∷ v) =
-      ap (λ (n : ℕ). 𝓕.mul x y ⊕ n) (dot-next j u v) ∙ sym (⊕-assoc (𝓕.mul x y) (dot 𝓕 (take j u) v) (𝓕.mul (get_or u j 0) (get_or v j 0)))
+  dot_next zero [] v = sym (zero_mul 𝓕 (get_or v 0 0))
+  dot_next (suc j) [] v = sym (zero_mul 𝓕 (get_or v (suc j) 0))
+  dot_next zero (x ∷ u) [] = sym (mul_zero 𝓕 x)
+  dot_next zero (x ∷ u) (y ∷ v) = ⊕_zero (𝓕.mul x y)
+  dot_next (suc j) (x ∷ u) [] = sym (mul_zero 𝓕 (get_or u j 0))
+  dot_next (suc j) (x ∷ u) (y ∷ v) =
+      ap (λ (n : ℕ). 𝓕.mul x y ⊕ n) (dot_next j u v) ∙ sym (⊕_assoc (𝓕.mul x y) (dot 𝓕 (take j u) v) (𝓕.mul (get_or u j 0) (get_or v j 0)))
 
   -- ---- the rows whose number has a bit
 
-  digit-mul : (d x : ℕ) → d < 2 → x < 256 → d * x ≡ 𝓕.mul d x
-  digit-mul zero x h l = nat-zero-mul x ∙ sym (zero-mul 𝓕 x)
-  digit-mul (suc zero) x h l = nat-one-mul x ∙ sym (one-mul 𝓕 x l)
-  digit-mul (suc (suc d)) x h l = absurd (omega arith)
+  digit_mul : (d x : ℕ) → d < 2 → x < 256 → d * x ≡ 𝓕.mul d x
+  digit_mul zero x h l = nat-zero-mul x ∙ sym (zero_mul 𝓕 x)
+  digit_mul (suc zero) x h l = nat-one-mul x ∙ sym (one_mul 𝓕 x l)
+  digit_mul (suc (suc d)) x h l = absurd (omega arith)
 
   module _ (b n : ℕ) (cs buffer : List ℕ) (byte : (i : ℕ) → get_or buffer i 0 < 256) where
-    chosen-dot : (i j : ℕ) → i < n → j ≤ length cs
-        → sumChosen b n cs buffer i j ≡ dot 𝓕 (take j (bits b cs)) (column i (rows_of n (length cs) buffer))
-    unfolding sumChosen dot
-    chosen-dot i zero h k = refl
-    chosen-dot i (suc j) h k =
+    chosen_dot : (i j : ℕ) → i < n → j ≤ length cs
+        → sum_chosen b n cs buffer i j ≡ dot 𝓕 (take j (bits b cs)) (column i (rows_of n (length cs) buffer))
+    unfolding sum_chosen dot
+    chosen_dot i zero h k = refl
+    chosen_dot i (suc j) h k =
         let rows : List (List ℕ) = rows_of n (length cs) buffer in
         let number : get_or (bits b cs) j 0 ≡ get_or cs j 0 / 2 ^ b % 2 = bit_at b cs j in
-        let at : get_or (column i rows) j 0 ≡ get_or buffer (j * n + i) 0 = column-entry i rows j ∙ entry_at n (length cs) j i buffer k h in
-        ap₂ (λ (x y : ℕ). x ⊕ y) (chosen-dot i j h (omega arith))
-        (digit-mul (get_or cs j 0 / 2 ^ b % 2) (get_or buffer (j * n + i) 0) (digit (get_or cs j 0 / 2 ^ b)) (byte (j * n + i))
+        let at : get_or (column i rows) j 0 ≡ get_or buffer (j * n + i) 0 = column_entry i rows j ∙ entry_at n (length cs) j i buffer k h in
+        ap₂ (λ (x y : ℕ). x ⊕ y) (chosen_dot i j h (omega arith))
+        (digit_mul (get_or cs j 0 / 2 ^ b % 2) (get_or buffer (j * n + i) 0) (digit (get_or cs j 0 / 2 ^ b)) (byte (j * n + i))
         ∙ sym (ap₂ (λ (x y : ℕ). 𝓕.mul x y) number at))
-        ∙ sym (dot-next j (bits b cs) (column i rows))
+        ∙ sym (dot_next j (bits b cs) (column i rows))
 
     -- bytes that have all of them added
-    pub chosen-all : (old : List ℕ) {now : List ℕ} → length cs * n ≤ length buffer → length old ≡ n → length now ≡ n
-        → ((i : ℕ) → i < n → get_or now i 0 ≡ get_or old i 0 ⊕ sumChosen b n cs buffer i (length cs))
-        → now ≡ addRow (combine 𝓕 n (bits b cs) (rows_of n (length cs) buffer)) old
-    chosen-all old {now} fit lo ln f =
+    pub chosen_all : (old : List ℕ) {now : List ℕ} → length cs * n ≤ length buffer → length old ≡ n → length now ≡ n
+        → ((i : ℕ) → i < n → get_or now i 0 ≡ get_or old i 0 ⊕ sum_chosen b n cs buffer i (length cs))
+        → now ≡ add_row (combine 𝓕 n (bits b cs) (rows_of n (length cs) buffer)) old
+    chosen_all old {now} fit lo ln f =
         let rows : List (List ℕ) = rows_of n (length cs) buffer in
         let sum : List ℕ = combine 𝓕 n (bits b cs) rows in
-        let wide : length sum ≡ n = length-combine 𝓕 n (bits b cs) rows in
+        let wide : length sum ≡ n = length_combine 𝓕 n (bits b cs) rows in
         let all : length (bits b cs) ≤ length cs = omega (arith, length-map cs (λ m. m / 2 ^ b % 2)) in
-        ext_get_or 0 now (addRow sum old) (ln ∙ sym (length-sum sum old ∙ lo)) (λ i h.
+        ext_get_or 0 now (add_row sum old) (ln ∙ sym (length_sum sum old ∙ lo)) (λ i h.
         let k : i < n = omega arith in
         f i k
         ∙ ap (λ (x : ℕ). get_or old i 0 ⊕ x)
-        (chosen-dot i (length cs) k (omega arith) ∙ ap (λ (l : List ℕ). dot 𝓕 l (column i rows)) (take_all (length cs) (bits b cs) all)
-        ∙ sym (combine-entry 𝓕 n (bits b cs) rows (sizes-of n (length cs) buffer fit) i))
-        ∙ sym (getD-sum sum old i (omega arith) (omega arith)))
+        (chosen_dot i (length cs) k (omega arith) ∙ ap (λ (l : List ℕ). dot 𝓕 l (column i rows)) (take_all (length cs) (bits b cs) all)
+        ∙ sym (combine_entry 𝓕 n (bits b cs) rows (sizes_of n (length cs) buffer fit) i))
+        ∙ sym (get_or_sum sum old i (omega arith) (omega arith)))
 
   -- ---- the loop over bits
 
   module _ (n : ℕ) (cs : List ℕ) (rows : List (List ℕ)) (small : (i : ℕ) → get_or cs i 0 < 256) (s : All (λ r. length r ≡ n) rows) where
-    first_bit : addRow (combine 𝓕 n (bits 7 cs) rows) (replicate n 0) ≡ combine 𝓕 n (above 7 cs) rows
+    first_bit : add_row (combine 𝓕 n (bits 7 cs) rows) (replicate n 0) ≡ combine 𝓕 n (above 7 cs) rows
     first_bit =
         let top : List ℕ = combine 𝓕 n (above 7 cs) rows in
-        let lt : length top ≡ n = length-combine 𝓕 n (above 7 cs) rows in
+        let lt : length top ≡ n = length_combine 𝓕 n (above 7 cs) rows in
         let lz : length {A = ℕ} (replicate n 0) ≡ n = length-replicate n 0 in
-        ap (λ (l : List ℕ). addRow (combine 𝓕 n l rows) (replicate n 0)) (sym (above-top cs small))
-        ∙ ext_get_or 0 (addRow top (replicate n 0)) top (length-sum top (replicate n 0) ∙ lz ∙ sym lt) (λ i h.
-        let k : i < length {A = ℕ} (replicate n 0) = omega (arith, length-sum top (replicate n 0)) in
-        getD-sum top (replicate n 0) i (omega arith) k ∙ ap (λ (x : ℕ). x ⊕ get_or top i 0) (zeros-entry n i))
+        ap (λ (l : List ℕ). add_row (combine 𝓕 n l rows) (replicate n 0)) (sym (above_top cs small))
+        ∙ ext_get_or 0 (add_row top (replicate n 0)) top (length_sum top (replicate n 0) ∙ lz ∙ sym lt) (λ i h.
+        let k : i < length {A = ℕ} (replicate n 0) = omega (arith, length_sum top (replicate n 0)) in
+        get_or_sum top (replicate n 0) i (omega arith) k ∙ ap (λ (x : ℕ). x ⊕ get_or top i 0) (zeros_entry n i))
 
     next_bit : (b : ℕ)
-        → addRow (combine 𝓕 n (bits b cs) rows) (scaleRow 𝓕 2 (combine 𝓕 n (above (suc b) cs) rows)) ≡ combine 𝓕 n (above b cs) rows
+        → add_row (combine 𝓕 n (bits b cs) rows) (scale_row 𝓕 2 (combine 𝓕 n (above (suc b) cs) rows)) ≡ combine 𝓕 n (above b cs) rows
     next_bit b =
         let odd : List ℕ = combine 𝓕 n (bits b cs) rows in
         let high : List ℕ = combine 𝓕 n (above (suc b) cs) rows in
-        let lo : length odd ≡ n = length-combine 𝓕 n (bits b cs) rows in
-        let lh : length (scaleRow 𝓕 2 high) ≡ n = length-scale 𝓕 2 high ∙ length-combine 𝓕 n (above (suc b) cs) rows in
-        ext_get_or 0 (addRow odd (scaleRow 𝓕 2 high)) (combine 𝓕 n (above b cs) rows)
-        (length-sum odd (scaleRow 𝓕 2 high) ∙ lh ∙ sym (length-combine 𝓕 n (above b cs) rows)) (λ i h.
-        let k : i < length (scaleRow 𝓕 2 high) = omega (arith, length-sum odd (scaleRow 𝓕 2 high)) in
-        getD-sum odd (scaleRow 𝓕 2 high) i (omega arith) k
-        ∙ ap₂ (λ (x y : ℕ). x ⊕ y) (scale-entry 𝓕 2 high i ∙ ap (𝓕.mul 2) (combine-entry 𝓕 n (above (suc b) cs) rows s i))
-        (combine-entry 𝓕 n (bits b cs) rows s i)
-        ∙ sym (combine-entry 𝓕 n (above b cs) rows s i ∙ dot-half b cs (column i rows) small))
+        let lo : length odd ≡ n = length_combine 𝓕 n (bits b cs) rows in
+        let lh : length (scale_row 𝓕 2 high) ≡ n = length_scale 𝓕 2 high ∙ length_combine 𝓕 n (above (suc b) cs) rows in
+        ext_get_or 0 (add_row odd (scale_row 𝓕 2 high)) (combine 𝓕 n (above b cs) rows)
+        (length_sum odd (scale_row 𝓕 2 high) ∙ lh ∙ sym (length_combine 𝓕 n (above b cs) rows)) (λ i h.
+        let k : i < length (scale_row 𝓕 2 high) = omega (arith, length_sum odd (scale_row 𝓕 2 high)) in
+        get_or_sum odd (scale_row 𝓕 2 high) i (omega arith) k
+        ∙ ap₂ (λ (x y : ℕ). x ⊕ y) (scale_entry 𝓕 2 high i ∙ ap (𝓕.mul 2) (combine_entry 𝓕 n (above (suc b) cs) rows s i))
+        (combine_entry 𝓕 n (bits b cs) rows s i)
+        ∙ sym (combine_entry 𝓕 n (above b cs) rows s i ∙ dot_half b cs (column i rows) small))
 
   module _ (n m : ℕ) (cs buffer : List ℕ) (small : (i : ℕ) → get_or cs i 0 < 256) (fit : m * n ≤ length buffer) where
-    widen : (b : ℕ) (old : List ℕ) {last : List ℕ} → length old ≡ n → last ≡ addRow (combine 𝓕 (length old) (bits b cs) (rows_of (length old) m buffer)) old
-        → last ≡ addRow (combine 𝓕 n (bits b cs) (rows_of n m buffer)) old
-    widen b old l e = e ∙ ap (λ (w : ℕ). addRow (combine 𝓕 w (bits b cs) (rows_of w m buffer)) old) l
+    widen : (b : ℕ) (old : List ℕ) {last : List ℕ} → length old ≡ n → last ≡ add_row (combine 𝓕 (length old) (bits b cs) (rows_of (length old) m buffer)) old
+        → last ≡ add_row (combine 𝓕 n (bits b cs) (rows_of n m buffer)) old
+    widen b old l e = e ∙ ap (λ (w : ℕ). add_row (combine 𝓕 w (bits b cs) (rows_of w m buffer)) old) l
 
     -- the highest bit, added to zeros
     pub begun : (clear : List ℕ) {last : List ℕ} → clear ≡ replicate n 0
-        → last ≡ addRow (combine 𝓕 (length clear) (bits 7 cs) (rows_of (length clear) m buffer)) clear → last ≡ combine 𝓕 n (above 7 cs) (rows_of n m buffer)
+        → last ≡ add_row (combine 𝓕 (length clear) (bits 7 cs) (rows_of (length clear) m buffer)) clear → last ≡ combine 𝓕 n (above 7 cs) (rows_of n m buffer)
     begun clear z e =
-        widen 7 clear (ap length z ∙ length-replicate n 0) e ∙ ap (addRow (combine 𝓕 n (bits 7 cs) (rows_of n m buffer))) z
-        ∙ first_bit n cs (rows_of n m buffer) small (sizes-of n m buffer fit)
+        widen 7 clear (ap length z ∙ length-replicate n 0) e ∙ ap (add_row (combine 𝓕 n (bits 7 cs) (rows_of n m buffer))) z
+        ∙ first_bit n cs (rows_of n m buffer) small (sizes_of n m buffer fit)
 
     -- the next bit, added to x times what the higher ones made
-    pub grown : (b : ℕ) (old twice : List ℕ) {last : List ℕ} → old ≡ combine 𝓕 n (above (suc b) cs) (rows_of n m buffer) → twice ≡ scaleRow 𝓕 2 old
-        → last ≡ addRow (combine 𝓕 (length twice) (bits b cs) (rows_of (length twice) m buffer)) twice → last ≡ combine 𝓕 n (above b cs) (rows_of n m buffer)
+    pub grown : (b : ℕ) (old twice : List ℕ) {last : List ℕ} → old ≡ combine 𝓕 n (above (suc b) cs) (rows_of n m buffer) → twice ≡ scale_row 𝓕 2 old
+        → last ≡ add_row (combine 𝓕 (length twice) (bits b cs) (rows_of (length twice) m buffer)) twice → last ≡ combine 𝓕 n (above b cs) (rows_of n m buffer)
     grown b old twice h d e =
-        widen b twice (ap length d ∙ length-scale 𝓕 2 old ∙ ap length h ∙ length-combine 𝓕 n (above (suc b) cs) (rows_of n m buffer)) e
-        ∙ ap (addRow (combine 𝓕 n (bits b cs) (rows_of n m buffer))) (d ∙ ap (scaleRow 𝓕 2) h)
-        ∙ next_bit n cs (rows_of n m buffer) small (sizes-of n m buffer fit) b
+        widen b twice (ap length d ∙ length_scale 𝓕 2 old ∙ ap length h ∙ length_combine 𝓕 n (above (suc b) cs) (rows_of n m buffer)) e
+        ∙ ap (add_row (combine 𝓕 n (bits b cs) (rows_of n m buffer))) (d ∙ ap (scale_row 𝓕 2) h)
+        ∙ next_bit n cs (rows_of n m buffer) small (sizes_of n m buffer fit) b

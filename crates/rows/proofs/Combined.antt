@@ -15,12 +15,12 @@ use Rattle.linear.specs.Pieces.{combine}
 use Rattle.rows.specs.Combining.{Combined}
 
 module _ {𝓕 : FieldLaws} {rows numbers out : List ℕ} where
-  pub combine-refused : leb (length numbers * length out) (length rows) ≡ false → Combined 𝓕 rows numbers out BadState out
-  combine-refused n = record { answer = rw n refl; left = rw n refl }
+  pub combine_refused : leb (length numbers * length out) (length rows) ≡ false → Combined 𝓕 rows numbers out BadState out
+  combine_refused n = record { answer = rw n refl; left = rw n refl }
 
-  pub combine-made : {last : List ℕ} → leb (length numbers * length out) (length rows) ≡ true
+  pub combine_made : {last : List ℕ} → leb (length numbers * length out) (length rows) ≡ true
       → last ≡ combine 𝓕 (length out) numbers (rows_of (length out) (length numbers) rows) → Combined 𝓕 rows numbers out Ok last
-  combine-made e l = record { answer = rw e refl; left = rw e l }
+  combine_made e l = record { answer = rw e refl; left = rw e l }
 
   -- what a caller whose buffer holds the rows learns
   pub combined : {r : Answer} {last : List ℕ} → Combined 𝓕 rows numbers out r last → length numbers * length out ≤ length rows
@@ -29,6 +29,6 @@ module _ {𝓕 : FieldLaws} {rows numbers out : List ℕ} where
       let t : leb (length numbers * length out) (length rows) ≡ true = le-leb _ _ h in
       (rw t at x.answer, rw t at x.left)
 
-  pub one-combined : {last last' : List ℕ} {r r' : Answer} → Combined 𝓕 rows numbers out r last → Combined 𝓕 rows numbers out r' last'
+  pub one_combined : {last last' : List ℕ} {r r' : Answer} → Combined 𝓕 rows numbers out r last → Combined 𝓕 rows numbers out r' last'
       → (r ≡ r') × (last ≡ last')
-  one-combined x y = (x.answer ∙ sym y.answer, x.left ∙ sym y.left)
+  one_combined x y = (x.answer ∙ sym y.answer, x.left ∙ sym y.left)

@@ -9,37 +9,37 @@ use borrow.Author.Tests.{eq-eqb, ne_eqb}
 use Rattle.answers.specs.declared.Answer.{Answer}
 use Rattle.answers.specs.declared.Answer.TheVariants.{Ok, InvalidPieceLength, BadState}
 use Rattle.galois.specs.FieldLaws.{FieldLaws}
-use Rattle.linear.specs.Rows.{addMultiple}
+use Rattle.linear.specs.Rows.{add_multiple}
 use Rattle.rows.specs.declared.Parts.{Parts}
-use Rattle.rows.specs.Parts.{lieApart}
-use Rattle.rows.specs.Outcomes.{addRow, addedPart, Summed, Added, PartAdded}
+use Rattle.rows.specs.Parts.{lie_apart}
+use Rattle.rows.specs.Outcomes.{add_row, added_part, Summed, Added, PartAdded}
 use Rattle.rows.proofs.PartLaws.{Apart, lies}
 
 module _ {src dst : List ℕ} where
-  pub sum-refused : (length dst ≡ length src → ⊥) → Summed src dst InvalidPieceLength dst
-  sum-refused n = record { answer = simp (ne_eqb _ _ n); left = simp (ne_eqb _ _ n) }
+  pub sum_refused : (length dst ≡ length src → ⊥) → Summed src dst InvalidPieceLength dst
+  sum_refused n = record { answer = simp (ne_eqb _ _ n); left = simp (ne_eqb _ _ n) }
 
-  pub sum-made : {last : List ℕ} → length dst ≡ length src → last ≡ addRow src dst → Summed src dst Ok last
-  sum-made e l = record { answer = simp (eq-eqb _ _ e); left = simp (eq-eqb _ _ e) l }
+  pub sum_made : {last : List ℕ} → length dst ≡ length src → last ≡ add_row src dst → Summed src dst Ok last
+  sum_made e l = record { answer = simp (eq-eqb _ _ e); left = simp (eq-eqb _ _ e) l }
 
 module _ {𝓕 : FieldLaws} {q : ℕ} {src dst : List ℕ} where
   pub refused : (length dst ≡ length src → ⊥) → Added 𝓕 q src dst InvalidPieceLength dst
   refused n = record { answer = simp (ne_eqb _ _ n); left = simp (ne_eqb _ _ n) }
 
-  pub made : {last : List ℕ} → length dst ≡ length src → last ≡ addMultiple 𝓕 q src dst → Added 𝓕 q src dst Ok last
+  pub made : {last : List ℕ} → length dst ≡ length src → last ≡ add_multiple 𝓕 q src dst → Added 𝓕 q src dst Ok last
   made e l = record { answer = simp (eq-eqb _ _ e); left = simp (eq-eqb _ _ e) l }
 
   -- what a caller with rows of equal lengths learns
-  pub added : {r : Answer} {last : List ℕ} → Added 𝓕 q src dst r last → length dst ≡ length src → last ≡ addMultiple 𝓕 q src dst
+  pub added : {r : Answer} {last : List ℕ} → Added 𝓕 q src dst r last → length dst ≡ length src → last ≡ add_multiple 𝓕 q src dst
   added a e = rw (eq-eqb (length dst) (length src) e) at a.left
 
 module _ {𝓕 : FieldLaws} {q : ℕ} {p : Parts} {b : List ℕ} where
-  pub part-refused : lieApart p (length b) ≡ false → PartAdded 𝓕 q p b BadState b
-  part-refused n = record { answer = rw n refl; left = rw n refl }
+  pub part_refused : lie_apart p (length b) ≡ false → PartAdded 𝓕 q p b BadState b
+  part_refused n = record { answer = rw n refl; left = rw n refl }
 
-  pub part-made : {last : List ℕ} → lieApart p (length b) ≡ true → last ≡ addedPart 𝓕 q p b → PartAdded 𝓕 q p b Ok last
-  part-made e l = record { answer = rw e refl; left = rw e l }
+  pub part_made : {last : List ℕ} → lie_apart p (length b) ≡ true → last ≡ added_part 𝓕 q p b → PartAdded 𝓕 q p b Ok last
+  part_made e l = record { answer = rw e refl; left = rw e l }
 
   -- what a caller with parts that lie apart learns
-  pub part-added : {r : Answer} {last : List ℕ} → PartAdded 𝓕 q p b r last → Apart p.from p.to p.len (length b) → last ≡ addedPart 𝓕 q p b
-  part-added a t = rw (lies p (length b) t) at a.left
+  pub part_added : {r : Answer} {last : List ℕ} → PartAdded 𝓕 q p b r last → Apart p.from p.to p.len (length b) → last ≡ added_part 𝓕 q p b
+  part_added a t = rw (lies p (length b) t) at a.left

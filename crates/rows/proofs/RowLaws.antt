@@ -7,69 +7,69 @@ use native.Mathlib.Nat.{le_of_suc-le-suc, not-suc-le-zero}
 use lib.ListN.{length, get_or, replicate}
 use Rattle.galois.specs.Gf.{◌⊕◌}
 use Rattle.galois.specs.FieldLaws.{FieldLaws}
-use Rattle.galois.proofs.Sum.{⊕-zero}
-use Rattle.galois.proofs.Field.{zero-mul, one-mul}
-use Rattle.linear.specs.Rows.{addMultiple, scaleRow}
-use Rattle.rows.specs.Outcomes.{addRow}
+use Rattle.galois.proofs.Sum.{⊕_zero}
+use Rattle.galois.proofs.Field.{zero_mul, one_mul}
+use Rattle.linear.specs.Rows.{add_multiple, scale_row}
+use Rattle.rows.specs.Outcomes.{add_row}
 
-pub length-sum : (src dst : List ℕ) → length (addRow src dst) ≡ length dst
-unfolding addRow
-length-sum [] dst = refl
-length-sum (s ∷ src) [] = refl
-length-sum (s ∷ src) (d ∷ dst) = ap suc (length-sum src dst)
+pub length_sum : (src dst : List ℕ) → length (add_row src dst) ≡ length dst
+unfolding add_row
+length_sum [] dst = refl
+length_sum (s ∷ src) [] = refl
+length_sum (s ∷ src) (d ∷ dst) = ap suc (length_sum src dst)
 
-pub getD-sum : (src dst : List ℕ) (i : ℕ) → i < length src → i < length dst → get_or (addRow src dst) i 0 ≡ get_or dst i 0 ⊕ get_or src i 0
-unfolding addRow
-getD-sum [] dst i h k = absurd (not-suc-le-zero h)
-getD-sum (s ∷ src) [] i h k = absurd (not-suc-le-zero k)
-getD-sum (s ∷ src) (d ∷ dst) zero h k = refl
-getD-sum (s ∷ src) (d ∷ dst) (suc i) h k = getD-sum src dst i (le_of_suc-le-suc h) (le_of_suc-le-suc k)
+pub get_or_sum : (src dst : List ℕ) (i : ℕ) → i < length src → i < length dst → get_or (add_row src dst) i 0 ≡ get_or dst i 0 ⊕ get_or src i 0
+unfolding add_row
+get_or_sum [] dst i h k = absurd (not-suc-le-zero h)
+get_or_sum (s ∷ src) [] i h k = absurd (not-suc-le-zero k)
+get_or_sum (s ∷ src) (d ∷ dst) zero h k = refl
+get_or_sum (s ∷ src) (d ∷ dst) (suc i) h k = get_or_sum src dst i (le_of_suc-le-suc h) (le_of_suc-le-suc k)
 
 module _ (𝓕 : FieldLaws) where
-  pub length-added : (q : ℕ) (src dst : List ℕ) → length (addMultiple 𝓕 q src dst) ≡ length dst
-  unfolding addMultiple
-  length-added q [] dst = refl
-  length-added q (s ∷ src) [] = refl
-  length-added q (s ∷ src) (d ∷ dst) = ap suc (length-added q src dst)
+  pub length_added : (q : ℕ) (src dst : List ℕ) → length (add_multiple 𝓕 q src dst) ≡ length dst
+  unfolding add_multiple
+  length_added q [] dst = refl
+  length_added q (s ∷ src) [] = refl
+  length_added q (s ∷ src) (d ∷ dst) = ap suc (length_added q src dst)
 
-  pub getD-added : (q : ℕ) (src dst : List ℕ) (i : ℕ) → i < length src → i < length dst
-      → get_or (addMultiple 𝓕 q src dst) i 0 ≡ get_or dst i 0 ⊕ 𝓕.mul q (get_or src i 0)
-  unfolding addMultiple
-  getD-added q [] dst i h k = absurd (not-suc-le-zero h)
-  getD-added q (s ∷ src) [] i h k = absurd (not-suc-le-zero k)
-  getD-added q (s ∷ src) (d ∷ dst) zero h k = refl
-  getD-added q (s ∷ src) (d ∷ dst) (suc i) h k = getD-added q src dst i (le_of_suc-le-suc h) (le_of_suc-le-suc k)
+  pub get_or_added : (q : ℕ) (src dst : List ℕ) (i : ℕ) → i < length src → i < length dst
+      → get_or (add_multiple 𝓕 q src dst) i 0 ≡ get_or dst i 0 ⊕ 𝓕.mul q (get_or src i 0)
+  unfolding add_multiple
+  get_or_added q [] dst i h k = absurd (not-suc-le-zero h)
+  get_or_added q (s ∷ src) [] i h k = absurd (not-suc-le-zero k)
+  get_or_added q (s ∷ src) (d ∷ dst) zero h k = refl
+  get_or_added q (s ∷ src) (d ∷ dst) (suc i) h k = get_or_added q src dst i (le_of_suc-le-suc h) (le_of_suc-le-suc k)
 
-  pub added-zero : (src dst : List ℕ) → addMultiple 𝓕 0 src dst ≡ dst
-  unfolding addMultiple
-  added-zero [] dst = refl
-  added-zero (s ∷ src) [] = refl
-  added-zero (s ∷ src) (d ∷ dst) = λ i. (ap (λ (x : ℕ). d ⊕ x) (zero-mul 𝓕 s) ∙ ⊕-zero d) i ∷ added-zero src dst i
+  pub added_zero : (src dst : List ℕ) → add_multiple 𝓕 0 src dst ≡ dst
+  unfolding add_multiple
+  added_zero [] dst = refl
+  added_zero (s ∷ src) [] = refl
+  added_zero (s ∷ src) (d ∷ dst) = λ i. (ap (λ (x : ℕ). d ⊕ x) (zero_mul 𝓕 s) ∙ ⊕_zero d) i ∷ added_zero src dst i
 
-  pub length-scaled : (q : ℕ) (xs : List ℕ) → length (scaleRow 𝓕 q xs) ≡ length xs
-  unfolding scaleRow
-  length-scaled q [] = refl
-  length-scaled q (x ∷ xs) = ap suc (length-scaled q xs)
+  pub length_scaled : (q : ℕ) (xs : List ℕ) → length (scale_row 𝓕 q xs) ≡ length xs
+  unfolding scale_row
+  length_scaled q [] = refl
+  length_scaled q (x ∷ xs) = ap suc (length_scaled q xs)
 
-  pub getD-scaled : (q : ℕ) (xs : List ℕ) (i : ℕ) → i < length xs → get_or (scaleRow 𝓕 q xs) i 0 ≡ 𝓕.mul q (get_or xs i 0)
-  unfolding scaleRow
-  getD-scaled q [] i h = absurd (not-suc-le-zero h)
-  getD-scaled q (x ∷ xs) zero h = refl
-  getD-scaled q (x ∷ xs) (suc i) h = getD-scaled q xs i (le_of_suc-le-suc h)
+  pub get_or_scaled : (q : ℕ) (xs : List ℕ) (i : ℕ) → i < length xs → get_or (scale_row 𝓕 q xs) i 0 ≡ 𝓕.mul q (get_or xs i 0)
+  unfolding scale_row
+  get_or_scaled q [] i h = absurd (not-suc-le-zero h)
+  get_or_scaled q (x ∷ xs) zero h = refl
+  get_or_scaled q (x ∷ xs) (suc i) h = get_or_scaled q xs i (le_of_suc-le-suc h)
 
-  pub scaled-zero : (xs : List ℕ) → replicate (length xs) 0 ≡ scaleRow 𝓕 0 xs
-  unfolding scaleRow
-  scaled-zero [] = refl
-  scaled-zero (x ∷ xs) = λ i. sym (zero-mul 𝓕 x) i ∷ scaled-zero xs i
+  pub scaled_zero : (xs : List ℕ) → replicate (length xs) 0 ≡ scale_row 𝓕 0 xs
+  unfolding scale_row
+  scaled_zero [] = refl
+  scaled_zero (x ∷ xs) = λ i. sym (zero_mul 𝓕 x) i ∷ scaled_zero xs i
 
   -- one times a row of bytes is that row
-  pub added-one : (src dst : List ℕ) → ((i : ℕ) → get_or src i 0 < 256) → addMultiple 𝓕 1 src dst ≡ addRow src dst
-  unfolding addMultiple addRow
-  added-one [] dst b = refl
-  added-one (s ∷ src) [] b = refl
-  added-one (s ∷ src) (d ∷ dst) b = λ i. (d ⊕ one-mul 𝓕 s (b 0) i) ∷ added-one src dst (λ k. b (suc k)) i
+  pub added_one : (src dst : List ℕ) → ((i : ℕ) → get_or src i 0 < 256) → add_multiple 𝓕 1 src dst ≡ add_row src dst
+  unfolding add_multiple add_row
+  added_one [] dst b = refl
+  added_one (s ∷ src) [] b = refl
+  added_one (s ∷ src) (d ∷ dst) b = λ i. (d ⊕ one_mul 𝓕 s (b 0) i) ∷ added_one src dst (λ k. b (suc k)) i
 
-  pub scaled-one : (xs : List ℕ) → ((i : ℕ) → get_or xs i 0 < 256) → scaleRow 𝓕 1 xs ≡ xs
-  unfolding scaleRow
-  scaled-one [] b = refl
-  scaled-one (x ∷ xs) b = λ i. one-mul 𝓕 x (b 0) i ∷ scaled-one xs (λ k. b (suc k)) i
+  pub scaled_one : (xs : List ℕ) → ((i : ℕ) → get_or xs i 0 < 256) → scale_row 𝓕 1 xs ≡ xs
+  unfolding scale_row
+  scaled_one [] b = refl
+  scaled_one (x ∷ xs) b = λ i. one_mul 𝓕 x (b 0) i ∷ scaled_one xs (λ k. b (suc k)) i

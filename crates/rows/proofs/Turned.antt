@@ -50,8 +50,8 @@ module _ {A : Type 0} where
   pub ends : {new old now : List A} {i : ℕ} → Turned i new old now → drop i new ≡ drop i old → now ≡ new
   ends {new} {old} {now} {i} t f = t.mixed ∙ ap (λ (l : List A). take i new ++ l) (sym f) ∙ take-append-drop i new
 
-  pub ends-all : {new old now : List A} {i : ℕ} → Turned i new old now → length old ≤ i → now ≡ new
-  ends-all {new} {old} {now} {i} t h =
+  pub ends_all : {new old now : List A} {i : ℕ} → Turned i new old now → length old ≤ i → now ≡ new
+  ends_all {new} {old} {now} {i} t h =
       let k : length new ≤ i = omega (arith, t.even) in
       ends t (drop_of_length-le new k ∙ sym (drop_of_length-le old h))
 

@@ -5,48 +5,48 @@ use Rattle.answers.specs.declared.Answer.TheVariants.{Ok, InvalidPieceLength, Ba
 use Rattle.galois.specs.Gf.{◌⊕◌}
 use Rattle.galois.specs.FieldLaws.{FieldLaws}
 use Rattle.linear.specs.Choice.{pick}
-use Rattle.linear.specs.Rows.{addMultiple, scaleRow}
+use Rattle.linear.specs.Rows.{add_multiple, scale_row}
 use Rattle.rows.specs.declared.Parts.{Parts}
-use Rattle.rows.specs.Parts.{lieApart, part_at, putPart}
+use Rattle.rows.specs.Parts.{lie_apart, part_at, put_part}
 
 -- each entry of dst plus that of src
-unfoldable pub addRow : List ℕ → List ℕ → List ℕ
-addRow [] dst = dst
-addRow (s ∷ src) [] = []
-addRow (s ∷ src) (d ∷ dst) = (d ⊕ s) ∷ addRow src dst
+unfoldable pub add_row : List ℕ → List ℕ → List ℕ
+add_row [] dst = dst
+add_row (s ∷ src) [] = []
+add_row (s ∷ src) (d ∷ dst) = (d ⊕ s) ∷ add_row src dst
 
 -- the part at `to` plus the part at `from`
-abbrev pub summedPart : Parts → List ℕ → List ℕ
-summedPart p b = putPart p.to p.len (addRow (part_at p.from p.len b) (part_at p.to p.len b)) b
+abbrev pub summed_part : Parts → List ℕ → List ℕ
+summed_part p b = put_part p.to p.len (add_row (part_at p.from p.len b) (part_at p.to p.len b)) b
 
 -- the part at `to` plus q times the part at `from`
-abbrev pub addedPart : FieldLaws → ℕ → Parts → List ℕ → List ℕ
-addedPart 𝓕 q p b =
-    putPart p.to p.len (addMultiple 𝓕 q (part_at p.from p.len b) (part_at p.to p.len b)) b
+abbrev pub added_part : FieldLaws → ℕ → Parts → List ℕ → List ℕ
+added_part 𝓕 q p b =
+    put_part p.to p.len (add_multiple 𝓕 q (part_at p.from p.len b) (part_at p.to p.len b)) b
 
 -- rows of unequal lengths are refused
-abbrev pub lengthsAnswer : List ℕ → List ℕ → Answer
-lengthsAnswer src dst = pick (eqb (length dst) (length src)) Ok InvalidPieceLength
+abbrev pub lengths_answer : List ℕ → List ℕ → Answer
+lengths_answer src dst = pick (eqb (length dst) (length src)) Ok InvalidPieceLength
 
 -- parts that do not lie in the buffer, or overlap, are refused
-abbrev pub partsAnswer : Parts → List ℕ → Answer
-partsAnswer p buffer = pick (lieApart p (length buffer)) Ok BadState
+abbrev pub parts_answer : Parts → List ℕ → Answer
+parts_answer p buffer = pick (lie_apart p (length buffer)) Ok BadState
 
 -- a row times q
 pub record Scaled (𝓕 : FieldLaws) (q : ℕ) (row last : List ℕ) : Type 0 where
-  pub left : last ≡ scaleRow 𝓕 q row
+  pub left : last ≡ scale_row 𝓕 q row
 
 -- src added to dst; where it is refused, nothing changes
 pub record Summed (src dst : List ℕ) (r : Answer) (last : List ℕ) : Type 0 where
-  pub answer : r ≡ lengthsAnswer src dst
-  pub left : last ≡ pick (eqb (length dst) (length src)) (addRow src dst) dst
+  pub answer : r ≡ lengths_answer src dst
+  pub left : last ≡ pick (eqb (length dst) (length src)) (add_row src dst) dst
 
 -- q times src added to dst; where it is refused, whatever q is, nothing changes
 pub record Added (𝓕 : FieldLaws) (q : ℕ) (src dst : List ℕ) (r : Answer) (last : List ℕ) : Type 0 where
-  pub answer : r ≡ lengthsAnswer src dst
-  pub left : last ≡ pick (eqb (length dst) (length src)) (addMultiple 𝓕 q src dst) dst
+  pub answer : r ≡ lengths_answer src dst
+  pub left : last ≡ pick (eqb (length dst) (length src)) (add_multiple 𝓕 q src dst) dst
 
 -- q times one part of a buffer added to another; where it is refused, whatever q is, nothing changes
 pub record PartAdded (𝓕 : FieldLaws) (q : ℕ) (p : Parts) (buffer : List ℕ) (r : Answer) (last : List ℕ) : Type 0 where
-  pub answer : r ≡ partsAnswer p buffer
-  pub left : last ≡ pick (lieApart p (length buffer)) (addedPart 𝓕 q p buffer) buffer
+  pub answer : r ≡ parts_answer p buffer
+  pub left : last ≡ pick (lie_apart p (length buffer)) (added_part 𝓕 q p buffer) buffer

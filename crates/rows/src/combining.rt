@@ -3,11 +3,11 @@
 ghost use Rattle.std.specs.Prelude.{◌≡◌, true, map, ℕ, ◌+◌, ◌*◌, ◌/◌, ◌%◌, ◌^◌, ◌≤◌, ◌<◌, leb, length, get_or};
 ghost use Rattle.galois.specs.FieldLaws.{FieldLaws};
 ghost use Rattle.field.specs.FieldOf.{field_of};
-ghost use Rattle.linear.specs.Rows.{scaleRow};
+ghost use Rattle.linear.specs.Rows.{scale_row};
 ghost use Rattle.linear.specs.Buffer.{rows_of};
 ghost use Rattle.linear.specs.Pieces.{combine};
 ghost use Rattle.galois.specs.Gf.{◌⊕◌};
-ghost use Rattle.rows.specs.Outcomes.{addRow};
+ghost use Rattle.rows.specs.Outcomes.{add_row};
 ghost use Rattle.rows.specs.Combining.{Combined};
 ghost use Rattle.rows.specs.Chosen.{sum_at, Collected};
 
@@ -55,7 +55,7 @@ fn sum_bits(f: Field, rows: &[u8], numbers: &[u8], out: &mut [u8])
 // starts of the rows are collected without one, for some numbers at a time, and the rows at those starts are added.
 fn add_chosen(rows: &[u8], numbers: &[u8], bit: u32, out: &mut [u8])
     requires { (bit < 8) × (length numbers.now * length out.old ≤ length rows.now) }
-    ensures { (𝓕 : FieldLaws) → out.new ≡ addRow (combine 𝓕 (length out.old) (map (λ n. n / 2 ^ bit % 2) numbers.now) (rows_of (length out.old) (length numbers.now) rows.now)) out.old }
+    ensures { (𝓕 : FieldLaws) → out.new ≡ add_row (combine 𝓕 (length out.old) (map (λ n. n / 2 ^ bit % 2) numbers.now) (rows_of (length out.old) (length numbers.now) rows.now)) out.old }
 {
     let width = out.len();
     let mut starts = [0usize; 64];
@@ -136,7 +136,7 @@ fn add_four(rows: &[u8], a: usize, b: usize, c: usize, d: usize, out: &mut [u8])
 
 // Each byte times x, where p is x times x^7.
 fn double(p: u8, row: &mut [u8])
-    ensures { (𝓕 : FieldLaws) → p ≡ 𝓕.mul 2 128 → row.new ≡ scaleRow 𝓕 2 row.old }
+    ensures { (𝓕 : FieldLaws) → p ≡ 𝓕.mul 2 128 → row.new ≡ scale_row 𝓕 2 row.old }
 {
     let mut i = 0;
     while i < row.len() {

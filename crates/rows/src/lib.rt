@@ -2,11 +2,11 @@
 // a multiple of a row added to a row, or to another part of the buffer that it lies in.
 ghost use Rattle.std.specs.Prelude.{◌≡◌, true, ℕ, ◌*◌, ◌%◌, length, replicate};
 ghost use Rattle.galois.specs.FieldLaws.{FieldLaws};
-ghost use Rattle.galois.specs.Multiples.{multiplesOf};
+ghost use Rattle.galois.specs.Multiples.{multiples_of};
 ghost use Rattle.field.specs.FieldOf.{field_of};
-ghost use Rattle.linear.specs.Rows.{allZero, addMultiple, scaleRow};
-ghost use Rattle.rows.specs.Parts.{lieApart};
-ghost use Rattle.rows.specs.Outcomes.{addRow, summedPart, addedPart, Scaled, Summed, Added, PartAdded};
+ghost use Rattle.linear.specs.Rows.{all_zero, add_multiple, scale_row};
+ghost use Rattle.rows.specs.Parts.{lie_apart};
+ghost use Rattle.rows.specs.Outcomes.{add_row, summed_part, added_part, Scaled, Summed, Added, PartAdded};
 
 use answers::Answer;
 use field::Field;
@@ -68,7 +68,7 @@ pub struct Parts {
 impl Parts {
     // Both lie in a buffer of n bytes, and share none of them.
     fn lie_apart(self, n: usize) -> bool
-        ensures { result ≡ lieApart self n }
+        ensures { result ≡ lie_apart self n }
     {
         let from = self.from;
         let to = self.to;
@@ -120,7 +120,7 @@ pub fn clear(vec: &mut [u8])
 
 // Whether every byte is 0.
 pub fn is_zero(part: &[u8]) -> bool
-    ensures { result ≡ allZero part.now }
+    ensures { result ≡ all_zero part.now }
 {
     let mut i = 0;
     while i < part.len() {
@@ -133,7 +133,7 @@ pub fn is_zero(part: &[u8]) -> bool
 }
 
 fn scale(f: Field, vec: &mut [u8], q: u8)
-    ensures { vec.new ≡ scaleRow (field_of f) q vec.old }
+    ensures { vec.new ≡ scale_row (field_of f) q vec.old }
 {
     let m = f.multiples(q);
     let mut i = 0;
@@ -145,7 +145,7 @@ fn scale(f: Field, vec: &mut [u8], q: u8)
 
 fn add_row(dst: &mut [u8], src: &[u8])
     requires { length dst.old ≡ length src.now }
-    ensures { dst.new ≡ addRow src.now dst.old }
+    ensures { dst.new ≡ add_row src.now dst.old }
 {
     let mut i = 0;
     while i < dst.len() {
@@ -156,7 +156,7 @@ fn add_row(dst: &mut [u8], src: &[u8])
 
 fn add_multiple(f: Field, dst: &mut [u8], src: &[u8], q: u8)
     requires { length dst.old ≡ length src.now }
-    ensures { dst.new ≡ addMultiple (field_of f) q src.now dst.old }
+    ensures { dst.new ≡ add_multiple (field_of f) q src.now dst.old }
 {
     let m = f.multiples(q);
     let mut i = 0;
@@ -167,8 +167,8 @@ fn add_multiple(f: Field, dst: &mut [u8], src: &[u8], q: u8)
 }
 
 fn add_part(buffer: &mut [u8], p: Parts)
-    requires { lieApart p (length buffer.old) ≡ true }
-    ensures { buffer.new ≡ summedPart p buffer.old }
+    requires { lie_apart p (length buffer.old) ≡ true }
+    ensures { buffer.new ≡ summed_part p buffer.old }
 {
     let from = p.from;
     let to = p.to;
@@ -181,8 +181,8 @@ fn add_part(buffer: &mut [u8], p: Parts)
 }
 
 fn add_multiple_of_part(f: Field, buffer: &mut [u8], p: Parts, q: u8)
-    requires { lieApart p (length buffer.old) ≡ true }
-    ensures { buffer.new ≡ addedPart (field_of f) q p buffer.old }
+    requires { lie_apart p (length buffer.old) ≡ true }
+    ensures { buffer.new ≡ added_part (field_of f) q p buffer.old }
 {
     let from = p.from;
     let to = p.to;
@@ -198,7 +198,7 @@ fn add_multiple_of_part(f: Field, buffer: &mut [u8], p: Parts, q: u8)
 // The product of b and the factor that m has the multiples of: the sum of those that the bits of b choose. All choices and no table, so
 // that a loop of it is done for many bytes at once.
 fn sum_chosen(m: [u8; 8], b: u8) -> u8
-    ensures { (𝓕 : FieldLaws) (q : ℕ) → m ≡ multiplesOf 𝓕 q → result ≡ 𝓕.mul q b }
+    ensures { (𝓕 : FieldLaws) (q : ℕ) → m ≡ multiples_of 𝓕 q → result ≡ 𝓕.mul q b }
 {
     chosen_by(b, m[0])
         ^ chosen_by(b / 2, m[1])

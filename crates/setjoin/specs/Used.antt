@@ -5,10 +5,10 @@ use Rattle.joiner.specs.declared.Fed.TheVariants.{Text, Refused}
 use Rattle.setjoin.specs.declared.Room.{Room}
 use Rattle.setjoin.specs.declared.Room.TheVariants.{From, Failed}
 
-abbrev pub usedBy : Room → ℕ
-usedBy (From n) = n
-usedBy Failed = 0
+abbrev pub used_by : Room → ℕ
+used_by (From n) = n
+used_by Failed = 0
 
-abbrev pub putBy : Fed → ℕ
-putBy (Text m n size) = n + size
-putBy (Refused a) = 0
+abbrev pub put_by : Fed → ℕ
+put_by (Text m n size) = n + size
+put_by (Refused a) = 0

@@ -1,9 +1,9 @@
 // Joins the piece stream on standard input: prints its listing, or the data alone. What is read next and what is printed is decided by the machine of
 // `joiner`; here bytes are read, fed and written.
 ghost use Rattle.std.specs.Prelude.{◌+◌, ◌≤◌, length};
-ghost use Rattle.listing.specs.Listing.{blockRoom};
-ghost use Rattle.joiner.specs.Machine.{textRoom};
-ghost use Rattle.setjoin.specs.Used.{usedBy, putBy};
+ghost use Rattle.listing.specs.Listing.{block_room};
+ghost use Rattle.joiner.specs.Machine.{text_room};
+ghost use Rattle.setjoin.specs.Used.{used_by, put_by};
 
 use call::Call;
 use field::Field;
@@ -59,8 +59,8 @@ fn write(text: &[u8]) -> bool {
 // Writes the text out where the longest of a turn has no room behind it, or at once.
 fn make_room(mode: Mode, out: &[u8], used: usize) -> Room
     requires used_in_bounds { used ≤ length out.now }
-    requires text_room_in_bounds { textRoom ≤ length out.now }
-    ensures { usedBy result + textRoom ≤ length out.now }
+    requires text_room_in_bounds { text_room ≤ length out.now }
+    ensures { used_by result + text_room ≤ length out.now }
 {
     match mode {
         Mode::Data => Room::From(0),
@@ -75,7 +75,7 @@ fn make_room(mode: Mode, out: &[u8], used: usize) -> Room
 }
 
 fn emptied(text: &[u8]) -> Room
-    ensures { usedBy result ≤ 0 }
+    ensures { used_by result ≤ 0 }
 {
     if write(text) {
         return Room::From(0);
@@ -86,9 +86,9 @@ fn emptied(text: &[u8]) -> Room
 // Reads what the machine wants, and feeds it.
 fn turn(m: Joiner, input: &mut [u8], elements: &mut [u8], data: &mut [u8], out: &mut [u8]) -> Fed
     requires in_bounds { 513 ≤ length input.old }
-    requires block_room_in_bounds { blockRoom ≤ length «data».old }
-    requires text_room_in_bounds { textRoom ≤ length out.old }
-    ensures { putBy result ≤ length out.new }
+    requires block_room_in_bounds { block_room ≤ length «data».old }
+    requires text_room_in_bounds { text_room ≤ length out.old }
+    ensures { put_by result ≤ length out.new }
 {
     let want = m.wants();
     let got = read(&mut input[..want]);
@@ -99,8 +99,8 @@ fn turn(m: Joiner, input: &mut [u8], elements: &mut [u8], data: &mut [u8], out: 
 // from a number that no input uses up.
 fn run(mode: Mode, input: &mut [u8], elements: &mut [u8], data: &mut [u8], out: &mut [u8]) -> u8
     requires in_bounds { 513 ≤ length input.old }
-    requires block_room_in_bounds { blockRoom ≤ length «data».old }
-    requires text_room_in_bounds { textRoom ≤ length out.old }
+    requires block_room_in_bounds { block_room ≤ length «data».old }
+    requires text_room_in_bounds { text_room ≤ length out.old }
 {
     let mut m = Joiner::new();
     let mut used = 0;

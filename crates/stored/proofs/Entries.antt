@@ -12,103 +12,103 @@ use borrow.Author.Tests.{lt-ltb, le-ltb}
 use Rattle.answers.specs.declared.Answer.TheVariants.{NoRoom, BadState, UnknownKind, CutRecord}
 use Rattle.stream.specs.declared.Geometry.{Geometry}
 use Rattle.decoder.specs.declared.Decoder.{Decoder}
-use Rattle.decoder.specs.Records.{k_of, LOf, badState}
+use Rattle.decoder.specs.Records.{k_of, l_of, bad_state}
 use Rattle.decoder.proofs.Sound.{holds}
 use Rattle.stored.specs.declared.Listed.{Listed}
 use Rattle.stored.specs.declared.Listed.TheVariants as listed
 use Rattle.stored.specs.declared.Saved.TheVariants as saved
 use Rattle.stored.specs.declared.Loaded.TheVariants as loaded
-use Rattle.stored.specs.Forms.{matrixSize, formSize, storedGeometry, sizeGeometry, form_of, formMatrix, formDecoder}
-use Rattle.stored.specs.Entries.{sizeRefusal, saveRefusal, savedForm, Saving, badForm, formRefusal, loadRefusal, geometryIn, loadResult, loadMatrix, Loading}
-use Rattle.stored.proofs.Forms.{sizes-are, length-form}
+use Rattle.stored.specs.Forms.{matrix_size, form_size, stored_geometry, size_geometry, form_of, form_matrix, form_decoder}
+use Rattle.stored.specs.Entries.{size_refusal, save_refusal, saved_form, Saving, bad_form, form_refusal, load_refusal, geometry_in, load_result, load_matrix, Loading}
+use Rattle.stored.proofs.Forms.{sizes_are, length_form}
 
 -- ---- saving
 
 module _ (d : Decoder) (elements out : List ℕ) where
-  pub saves-bad : badState d (length elements) ≡ true → Saving d elements out (saved.Refused BadState) out
-  unfolding saveRefusal
-  saves-bad b = record { result = rw b; left = rw b }
+  pub saves_bad : bad_state d (length elements) ≡ true → Saving d elements out (saved.Refused BadState) out
+  unfolding save_refusal
+  saves_bad b = record { result = rw b; left = rw b }
 
-  module _ (b : badState d (length elements) ≡ false) where
-    pub saves-unlisted : sizeGeometry (k_of d) (LOf d) ≡ listed.Unlisted → Saving d elements out (saved.Refused UnknownKind) out
-    unfolding saveRefusal sizeRefusal
-    saves-unlisted s = record { result = rw (b, s); left = rw (b, s) }
+  module _ (b : bad_state d (length elements) ≡ false) where
+    pub saves_unlisted : size_geometry (k_of d) (l_of d) ≡ listed.Unlisted → Saving d elements out (saved.Refused UnknownKind) out
+    unfolding save_refusal size_refusal
+    saves_unlisted s = record { result = rw (b, s); left = rw (b, s) }
 
-    module _ (g : Geometry) (s : sizeGeometry (k_of d) (LOf d) ≡ listed.Of g) where
-      pub saves-no-room : length out < formSize g → Saving d elements out (saved.Refused NoRoom) out
-      unfolding saveRefusal sizeRefusal
-      saves-no-room h =
-          let t : ltb (length out) (formSize g) ≡ true = lt-ltb (length out) (formSize g) h in
+    module _ (g : Geometry) (s : size_geometry (k_of d) (l_of d) ≡ listed.Of g) where
+      pub saves_no_room : length out < form_size g → Saving d elements out (saved.Refused NoRoom) out
+      unfolding save_refusal size_refusal
+      saves_no_room h =
+          let t : ltb (length out) (form_size g) ≡ true = lt-ltb (length out) (form_size g) h in
           record { result = rw (b, s, t); left = rw (b, s, t) }
 
-      size : length (form_of g d elements) ≡ formSize g
+      size : length (form_of g d elements) ≡ form_size g
       size =
           let h = holds d (length elements) b in
-          let (k-is, L-is) = sizes-are (k_of d) (LOf d) g s in
-          length-form g d elements k-is L-is h.numbers.rows-pieces h.room
+          let (k_is, l_is) = sizes_are (k_of d) (l_of d) g s in
+          length_form g d elements k_is l_is h.numbers.rows_pieces h.room
 
-      pub saves : {last : List ℕ} → formSize g ≤ length out → last ≡ form_of g d elements ++ drop (formSize g) out
-          → Saving d elements out (saved.Bytes (formSize g)) last
-      unfolding saveRefusal sizeRefusal savedForm
+      pub saves : {last : List ℕ} → form_size g ≤ length out → last ≡ form_of g d elements ++ drop (form_size g) out
+          → Saving d elements out (saved.Bytes (form_size g)) last
+      unfolding save_refusal size_refusal saved_form
       saves h e =
-          let t : ltb (length out) (formSize g) ≡ false = le-ltb (length out) (formSize g) h in
+          let t : ltb (length out) (form_size g) ≡ false = le-ltb (length out) (form_size g) h in
           record { result = rw (b, s, t, size); left = e ∙ rw (b, s, t, size) }
 
 -- ---- loading
 
 module _ (elements : List ℕ) where
-  pub loads-empty : (form : List ℕ) → length form ≡ 0 → Loading form elements (loaded.Refused CutRecord) elements
-  unfolding loadRefusal geometryIn loadResult
-  loads-empty [] z = record { result = refl; left = refl }
-  loads-empty (kind ∷ rest) z = absurd (omega arith)
+  pub loads_empty : (form : List ℕ) → length form ≡ 0 → Loading form elements (loaded.Refused CutRecord) elements
+  unfolding load_refusal geometry_in load_result
+  loads_empty [] z = record { result = refl; left = refl }
+  loads_empty (kind ∷ rest) z = absurd (omega arith)
 
   module _ (form : List ℕ) (n : length form ≡ 0 → ⊥) where
-    told : geometryIn form ≡ storedGeometry (get_or form 0 0)
-    unfolding geometryIn
+    told : geometry_in form ≡ stored_geometry (get_or form 0 0)
+    unfolding geometry_in
     told = go form n
       where
-        go : (f : List ℕ) → (length f ≡ 0 → ⊥) → geometryIn f ≡ storedGeometry (get_or f 0 0)
+        go : (f : List ℕ) → (length f ≡ 0 → ⊥) → geometry_in f ≡ stored_geometry (get_or f 0 0)
         go [] n = absurd (n refl)
         go (kind ∷ rest) n = refl
 
-    refusal : (room : ℕ) → loadRefusal form room ≡ formRefusal (storedGeometry (get_or form 0 0)) form room
-    unfolding loadRefusal
+    refusal : (room : ℕ) → load_refusal form room ≡ form_refusal (stored_geometry (get_or form 0 0)) form room
+    unfolding load_refusal
     refusal room = go form n
       where
-        go : (f : List ℕ) → (length f ≡ 0 → ⊥) → loadRefusal f room ≡ formRefusal (storedGeometry (get_or f 0 0)) f room
+        go : (f : List ℕ) → (length f ≡ 0 → ⊥) → load_refusal f room ≡ form_refusal (stored_geometry (get_or f 0 0)) f room
         go [] n = absurd (n refl)
         go (kind ∷ rest) n = refl
 
-    pub loads-unlisted : storedGeometry (get_or form 0 0) ≡ listed.Unlisted → Loading form elements (loaded.Refused UnknownKind) elements
-    unfolding formRefusal loadResult
-    loads-unlisted s = record { result = rw (told, refusal, s); left = rw (told, refusal, s) }
+    pub loads_unlisted : stored_geometry (get_or form 0 0) ≡ listed.Unlisted → Loading form elements (loaded.Refused UnknownKind) elements
+    unfolding form_refusal load_result
+    loads_unlisted s = record { result = rw (told, refusal, s); left = rw (told, refusal, s) }
 
-    module _ (g : Geometry) (s : storedGeometry (get_or form 0 0) ≡ listed.Of g) where
-      pub loads-short : length form < formSize g → Loading form elements (loaded.Refused CutRecord) elements
-      unfolding formRefusal loadResult
-      loads-short h =
-          let t : ltb (length form) (formSize g) ≡ true = lt-ltb (length form) (formSize g) h in
+    module _ (g : Geometry) (s : stored_geometry (get_or form 0 0) ≡ listed.Of g) where
+      pub loads_short : length form < form_size g → Loading form elements (loaded.Refused CutRecord) elements
+      unfolding form_refusal load_result
+      loads_short h =
+          let t : ltb (length form) (form_size g) ≡ true = lt-ltb (length form) (form_size g) h in
           record { result = rw (told, refusal, s, t); left = rw (told, refusal, s, t) }
 
-      module _ (w : formSize g ≤ length form) where
-        t : ltb (length form) (formSize g) ≡ false
-        t = le-ltb (length form) (formSize g) w
+      module _ (w : form_size g ≤ length form) where
+        t : ltb (length form) (form_size g) ≡ false
+        t = le-ltb (length form) (form_size g) w
 
-        pub loads-no-room : length elements < matrixSize g → Loading form elements (loaded.Refused NoRoom) elements
-        unfolding formRefusal loadResult
-        loads-no-room h =
-            let u : ltb (length elements) (matrixSize g) ≡ true = lt-ltb (length elements) (matrixSize g) h in
+        pub loads_no_room : length elements < matrix_size g → Loading form elements (loaded.Refused NoRoom) elements
+        unfolding form_refusal load_result
+        loads_no_room h =
+            let u : ltb (length elements) (matrix_size g) ≡ true = lt-ltb (length elements) (matrix_size g) h in
             record { result = rw (told, refusal, s, t, u); left = rw (told, refusal, s, t, u) }
 
-        module _ (v : matrixSize g ≤ length elements) where
-          u : ltb (length elements) (matrixSize g) ≡ false
-          u = le-ltb (length elements) (matrixSize g) v
+        module _ (v : matrix_size g ≤ length elements) where
+          u : ltb (length elements) (matrix_size g) ≡ false
+          u = le-ltb (length elements) (matrix_size g) v
 
-          pub loads-bad : badForm g form ≡ true → Loading form elements (loaded.Refused BadState) elements
-          unfolding formRefusal loadResult
-          loads-bad b = record { result = rw (told, refusal, s, t, u, b); left = rw (told, refusal, s, t, u, b) }
+          pub loads_bad : bad_form g form ≡ true → Loading form elements (loaded.Refused BadState) elements
+          unfolding form_refusal load_result
+          loads_bad b = record { result = rw (told, refusal, s, t, u, b); left = rw (told, refusal, s, t, u, b) }
 
-          pub loads : {last : List ℕ} → badForm g form ≡ false → last ≡ formMatrix g form ++ drop (matrixSize g) elements
-              → Loading form elements (loaded.Of (formDecoder g form)) last
-          unfolding formRefusal loadResult loadMatrix
+          pub loads : {last : List ℕ} → bad_form g form ≡ false → last ≡ form_matrix g form ++ drop (matrix_size g) elements
+              → Loading form elements (loaded.Of (form_decoder g form)) last
+          unfolding form_refusal load_result load_matrix
           loads b e = record { result = rw (told, refusal, s, t, u, b); left = e ∙ rw (told, refusal, s, t, u, b) }

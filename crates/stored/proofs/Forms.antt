@@ -13,16 +13,16 @@ use lib.Seq.{take-nil, length-take-le}
 use borrow.Author.Tests.{eqb-true}
 use Rattle.linear.specs.Choice.{pick}
 use Rattle.linear.specs.Buffer.{flat}
-use Rattle.linear.proofs.Flat.{flat-front}
-use Rattle.linear.proofs.Choice.{and-true}
+use Rattle.linear.proofs.Flat.{flat_front}
+use Rattle.linear.proofs.Choice.{and_true}
 use Rattle.stream.specs.declared.Geometry.{Geometry}
 use Rattle.stream.specs.declared.Geometry.TheVariants.{Of3By2, Of16By240, Of32By480}
 use Rattle.stream.specs.Geometries.{pieces_of, length_of, body_of}
 use Rattle.decoder.specs.declared.Decoder.{Decoder}
-use Rattle.decoder.specs.Records.{k_of, LOf, FOf, rowsIn, held_rows}
+use Rattle.decoder.specs.Records.{k_of, l_of, f_of, rows_in, held_rows}
 use Rattle.stored.specs.declared.Listed.{Listed}
 use Rattle.stored.specs.declared.Listed.TheVariants as listed
-use Rattle.stored.specs.Forms.{storedKind, matrixSize, formSize, storedGeometry, sizeGeometry, form_of}
+use Rattle.stored.specs.Forms.{stored_kind, matrix_size, form_size, stored_geometry, size_geometry, form_of}
 use Rattle.stored.proofs.Numbers.{inside}
 
 -- ---- kinds and sizes
@@ -36,63 +36,63 @@ first_of P false true c g e p q r = let h : Of16By240 ≡ g = cc in subst P h (q
 first_of P false false true g e p q r = let h : Of32By480 ≡ g = cc in subst P h (r refl)
 first_of P false false false g e p q r = let z : ◌≡◌ {A = ℕ} 0 1 = cc in absurd (omega arith)
 
-pub kind-is : (kind : ℕ) (g : Geometry) → storedGeometry kind ≡ listed.Of g → kind ≡ storedKind g
-unfolding storedGeometry
-kind-is kind g e =
-    first_of (λ h. kind ≡ storedKind h) (eqb kind 0x21) (eqb kind 0x22) (eqb kind 0x23) g e
+pub kind_is : (kind : ℕ) (g : Geometry) → stored_geometry kind ≡ listed.Of g → kind ≡ stored_kind g
+unfolding stored_geometry
+kind_is kind g e =
+    first_of (λ h. kind ≡ stored_kind h) (eqb kind 0x21) (eqb kind 0x22) (eqb kind 0x23) g e
     (λ t. eqb-true kind 0x21 t) (λ t. eqb-true kind 0x22 t) (λ t. eqb-true kind 0x23 t)
 
-pub kind-of : (g : Geometry) → storedGeometry (storedKind g) ≡ listed.Of g
-unfolding storedGeometry
-kind-of Of3By2 = refl
-kind-of Of16By240 = refl
-kind-of Of32By480 = refl
+pub kind_of_lem : (g : Geometry) → stored_geometry (stored_kind g) ≡ listed.Of g
+unfolding stored_geometry
+kind_of_lem Of3By2 = refl
+kind_of_lem Of16By240 = refl
+kind_of_lem Of32By480 = refl
 
 both : (k L a b : ℕ) → (eqb k a && eqb L b) ≡ true → (k ≡ a) × (L ≡ b)
-both k L a b t = let (p, q) = and-true (eqb k a) (eqb L b) t in (eqb-true k a p, eqb-true L b q)
+both k L a b t = let (p, q) = and_true (eqb k a) (eqb L b) t in (eqb-true k a p, eqb-true L b q)
 
-pub sizes-are : (k L : ℕ) (g : Geometry) → sizeGeometry k L ≡ listed.Of g → (k ≡ pieces_of g) × (L ≡ length_of g)
-unfolding sizeGeometry
-sizes-are k L g e =
+pub sizes_are : (k L : ℕ) (g : Geometry) → size_geometry k L ≡ listed.Of g → (k ≡ pieces_of g) × (L ≡ length_of g)
+unfolding size_geometry
+sizes_are k L g e =
     first_of (λ h. (k ≡ pieces_of h) × (L ≡ length_of h)) (eqb k 3 && eqb L 2) (eqb k 16 && eqb L 240) (eqb k 32 && eqb L 480) g e
     (both k L 3 2) (both k L 16 240) (both k L 32 480)
 
-pub sizes-of : (g : Geometry) → sizeGeometry (pieces_of g) (length_of g) ≡ listed.Of g
-unfolding sizeGeometry
-sizes-of Of3By2 = refl
-sizes-of Of16By240 = refl
-sizes-of Of32By480 = refl
+pub sizes_of : (g : Geometry) → size_geometry (pieces_of g) (length_of g) ≡ listed.Of g
+unfolding size_geometry
+sizes_of Of3By2 = refl
+sizes_of Of16By240 = refl
+sizes_of Of32By480 = refl
 
 -- ---- the matrix of a decoder of this geometry
 
-module _ (g : Geometry) (d : Decoder) (elements : List ℕ) (k-is : k_of d ≡ pieces_of g) (L-is : LOf d ≡ length_of g) where
-  pub whole-matrix : k_of d * FOf d ≡ matrixSize g
-  whole-matrix = λ i. k-is i * (k-is i + L-is i)
+module _ (g : Geometry) (d : Decoder) (elements : List ℕ) (k_is : k_of d ≡ pieces_of g) (l_is : l_of d ≡ length_of g) where
+  pub whole_matrix : k_of d * f_of d ≡ matrix_size g
+  whole_matrix = λ i. k_is i * (k_is i + l_is i)
 
-  pub held_bytes : flat (held_rows d elements) ≡ take (rowsIn d * body_of g) elements
+  pub held_bytes : flat (held_rows d elements) ≡ take (rows_in d * body_of g) elements
   unfolding held_rows
-  held_bytes = flat-front (FOf d) (rowsIn d) elements ∙ (λ i. take (rowsIn d * (k-is i + L-is i)) elements)
+  held_bytes = flat_front (f_of d) (rows_in d) elements ∙ (λ i. take (rows_in d * (k_is i + l_is i)) elements)
 
-  module _ (few : rowsIn d ≤ k_of d) (room : k_of d * FOf d ≤ length elements) where
-    pub held-inside : rowsIn d * body_of g ≤ matrixSize g
-    held-inside = inside g (subst (λ (n : ℕ). rowsIn d ≤ n) k-is few)
+  module _ (few : rows_in d ≤ k_of d) (room : k_of d * f_of d ≤ length elements) where
+    pub held_inside : rows_in d * body_of g ≤ matrix_size g
+    held_inside = inside g (subst (λ (n : ℕ). rows_in d ≤ n) k_is few)
 
-    pub held-room : rowsIn d * body_of g ≤ length elements
-    held-room = omega (arith, held-inside, whole-matrix)
+    pub held_room : rows_in d * body_of g ≤ length elements
+    held_room = omega (arith, held_inside, whole_matrix)
 
-    pub length-matrix : length (flat (held_rows d elements) ++ replicate (matrixSize g - rowsIn d * body_of g) 0) ≡ matrixSize g
-    length-matrix =
-        let held : length (flat (held_rows d elements)) ≡ rowsIn d * body_of g = ap length held_bytes ∙ length-take-le (rowsIn d * body_of g) elements held-room in
-        simp (length-append, length-replicate) (omega (arith, held, held-inside))
+    pub length_matrix : length (flat (held_rows d elements) ++ replicate (matrix_size g - rows_in d * body_of g) 0) ≡ matrix_size g
+    length_matrix =
+        let held : length (flat (held_rows d elements)) ≡ rows_in d * body_of g = ap length held_bytes ∙ length-take-le (rows_in d * body_of g) elements held_room in
+        simp (length-append, length-replicate) (omega (arith, held, held_inside))
 
-    pub length-form : length (form_of g d elements) ≡ formSize g
+    pub length_form : length (form_of g d elements) ≡ form_size g
     unfolding form_of
-    length-form = omega (arith, length-matrix)
+    length_form = omega (arith, length_matrix)
 
 -- ---- a part of a part
 
-pub drop-take : (n m : ℕ) (l : List ℕ) → n ≤ m → drop n (take m l) ≡ take (m - n) (drop n l)
-drop-take zero m l h = ap (λ (k : ℕ). take k l) (sym (sub-zero m))
-drop-take (suc n) zero l h = absurd (not-suc-le-zero h)
-drop-take (suc n) (suc m) [] h = sym (take-nil (suc m - suc n))
-drop-take (suc n) (suc m) (x ∷ l) h = drop-take n m l (le_of_suc-le-suc h) ∙ ap (λ (k : ℕ). take k (drop n l)) (sym (suc-sub-suc m n))
+pub drop_take : (n m : ℕ) (l : List ℕ) → n ≤ m → drop n (take m l) ≡ take (m - n) (drop n l)
+drop_take zero m l h = ap (λ (k : ℕ). take k l) (sym (sub-zero m))
+drop_take (suc n) zero l h = absurd (not-suc-le-zero h)
+drop_take (suc n) (suc m) [] h = sym (take-nil (suc m - suc n))
+drop_take (suc n) (suc m) (x ∷ l) h = drop_take n m l (le_of_suc-le-suc h) ∙ ap (λ (k : ℕ). take k (drop n l)) (sym (suc-sub-suc m n))

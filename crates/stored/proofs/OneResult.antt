@@ -8,10 +8,10 @@ use Rattle.stored.specs.declared.Saved.{Saved}
 use Rattle.stored.specs.declared.Loaded.{Loaded}
 use Rattle.stored.specs.Entries.{Saving, Loading}
 
-pub saved-once : {d : Decoder} {elements out last last' : List ℕ} {r r' : Saved} → Saving d elements out r last → Saving d elements out r' last'
+pub saved_once : {d : Decoder} {elements out last last' : List ℕ} {r r' : Saved} → Saving d elements out r last → Saving d elements out r' last'
     → (r ≡ r') × (last ≡ last')
-saved-once s s' = (s.result ∙ sym s'.result, s.left ∙ sym s'.left)
+saved_once s s' = (s.result ∙ sym s'.result, s.left ∙ sym s'.left)
 
-pub loaded-once : {form elements last last' : List ℕ} {r r' : Loaded} → Loading form elements r last → Loading form elements r' last'
+pub loaded_once : {form elements last last' : List ℕ} {r r' : Loaded} → Loading form elements r last → Loading form elements r' last'
     → (r ≡ r') × (last ≡ last')
-loaded-once l l' = (l.result ∙ sym l'.result, l.left ∙ sym l'.left)
+loaded_once l l' = (l.result ∙ sym l'.result, l.left ∙ sym l'.left)

@@ -2,9 +2,9 @@
 // loads saves back to the same bytes.
 ghost use Rattle.std.specs.Prelude.{◌≡◌, false, ◌++◌, ◌-◌, ◌≤◌, length, take, drop, replicate};
 ghost use Rattle.stream.specs.Geometries.{pieces_of, length_of};
-ghost use Rattle.decoder.specs.Records.{k_of, LOf, badState};
-ghost use Rattle.stored.specs.Forms.{storedKind, matrixSize, formSize, storedGeometry, sizeGeometry, form_of, formTaken, formDecoder};
-ghost use Rattle.stored.specs.Entries.{badForm, Saving, Loading};
+ghost use Rattle.decoder.specs.Records.{k_of, l_of, bad_state};
+ghost use Rattle.stored.specs.Forms.{stored_kind, matrix_size, form_size, stored_geometry, size_geometry, form_of, form_taken, form_decoder};
+ghost use Rattle.stored.specs.Entries.{bad_form, Saving, Loading};
 
 use answers::Answer;
 use decoder::{Decoder, ReceivedPieceCount, UsefulPieceCount};
@@ -32,7 +32,7 @@ enum Listed {
 }
 
 fn stored_kind(g: Geometry) -> u8
-    ensures { result ≡ storedKind g }
+    ensures { result ≡ stored_kind g }
 {
     match g {
         Geometry::Of3By2 => 0x21,
@@ -43,7 +43,7 @@ fn stored_kind(g: Geometry) -> u8
 
 // The bytes of the matrix.
 fn matrix_len(g: Geometry) -> usize
-    ensures { result ≡ matrixSize g }
+    ensures { result ≡ matrix_size g }
 {
     match g {
         Geometry::Of3By2 => 15,
@@ -54,13 +54,13 @@ fn matrix_len(g: Geometry) -> usize
 
 // The bytes of the whole form, its kind included.
 fn form_len(g: Geometry) -> usize
-    ensures { result ≡ formSize g }
+    ensures { result ≡ form_size g }
 {
     4 + matrix_len(g)
 }
 
 fn of_kind(kind: u8) -> Listed
-    ensures { result ≡ storedGeometry kind }
+    ensures { result ≡ stored_geometry kind }
 {
     match kind {
         0x21 => Listed::Of(Geometry::Of3By2),
@@ -71,7 +71,7 @@ fn of_kind(kind: u8) -> Listed
 }
 
 fn of_sizes(piece_count: usize, piece_byte_len: usize) -> Listed
-    ensures { result ≡ sizeGeometry piece_count piece_byte_len }
+    ensures { result ≡ size_geometry piece_count piece_byte_len }
 {
     if piece_count == 3 && piece_byte_len == 2 {
         return Listed::Of(Geometry::Of3By2);
@@ -96,10 +96,10 @@ fn put_matrix(elements: &[u8], held: usize, part: &mut [u8])
 
 // The form of a decoder of this geometry, at the front of `out`.
 fn put_form(g: Geometry, d: Decoder, elements: &[u8], out: &mut [u8])
-    requires d_value { (k_of d ≡ pieces_of g) × (LOf d ≡ length_of g) }
-    requires elements_value { badState d (length elements.now) ≡ false }
-    requires g_in_bounds { formSize g ≤ length out.old }
-    ensures { out.new ≡ form_of g d elements.now ++ drop (formSize g) out.old }
+    requires d_value { (k_of d ≡ pieces_of g) × (l_of d ≡ length_of g) }
+    requires elements_value { bad_state d (length elements.now) ≡ false }
+    requires g_in_bounds { form_size g ≤ length out.old }
+    ensures { out.new ≡ form_of g d elements.now ++ drop (form_size g) out.old }
 {
     let rows = d.useful_piece_count.0;
     let taken = d.received_piece_count.0;
@@ -132,15 +132,15 @@ pub fn save(d: Decoder, elements: &[u8], out: &mut [u8]) -> Saved
 // The taken count: high byte first.
 fn taken_in(form: &[u8]) -> usize
     requires { 4 ≤ length form.now }
-    ensures { result ≡ formTaken form.now }
+    ensures { result ≡ form_taken form.now }
 {
     form[2] as usize * 256 + form[3] as usize
 }
 
 // Bad counts, or a nonzero byte behind the held rows.
 fn is_bad_form(g: Geometry, form: &[u8]) -> bool
-    requires { formSize g ≤ length form.now }
-    ensures { result ≡ badForm g form.now }
+    requires { form_size g ≤ length form.now }
+    ensures { result ≡ bad_form g form.now }
 {
     let rows = form[1] as usize;
     if g.piece_count() < rows {
@@ -157,7 +157,7 @@ fn is_bad_form(g: Geometry, form: &[u8]) -> bool
 // The record in a form.
 fn decoder_in(g: Geometry, form: &[u8]) -> Decoder
     requires { 4 ≤ length form.now }
-    ensures { result ≡ formDecoder g form.now }
+    ensures { result ≡ form_decoder g form.now }
 {
     let rows = UsefulPieceCount(form[1] as usize);
     let taken = ReceivedPieceCount(taken_in(form));

@@ -25,10 +25,10 @@ abbrev pub body_of : Geometry → ℕ
 body_of g = pieces_of g + length_of g
 
 -- the geometry of a kind of piece
-unfoldable pub geometryOf : ℕ → Option Geometry
-geometryOf kind =
+unfoldable pub geometry_of : ℕ → Option Geometry
+geometry_of kind =
     pick (eqb kind 0x11) (some Of3By2) (pick (eqb kind 0x12) (some Of16By240) (pick (eqb kind 0x13) (some Of32By480) none))
 
 -- whether two are the same
-unfoldable pub sameGeometry : Geometry → Geometry → Bool
-sameGeometry g h = eqb (kind_of g) (kind_of h)
+unfoldable pub same_geometry : Geometry → Geometry → Bool
+same_geometry g h = eqb (kind_of g) (kind_of h)

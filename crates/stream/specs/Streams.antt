@@ -7,7 +7,7 @@ use Rattle.stream.specs.declared.Seen.{Seen}
 use Rattle.stream.specs.declared.Seen.TheVariants as seen
 use Rattle.stream.specs.declared.Record.TheVariants.{Piece, End, Refused}
 use Rattle.stream.specs.Geometries.{kind_of, body_of}
-use Rattle.stream.specs.Records.{recordAt}
+use Rattle.stream.specs.Records.{record_at}
 
 -- the largest number of a machine, for a count of pieces and for an offset
 abbrev pub largest : ℕ
@@ -21,28 +21,28 @@ pub data Stream : Type 0 where
   stop : Answer → ℕ → Stream
 
 -- one record after the other from an offset on; `fuel` is more than there are records
-unfoldable pub streamFrom : ℕ → Seen → ℕ → List ℕ → Stream
-streamFrom zero so_far at bytes = stop CutRecord at
-streamFrom (suc fuel) so_far at bytes =
-    elim (recordAt so_far bytes) [
-      | Piece g ↦ piece g (take (body_of g) (drop 1 bytes)) (streamFrom fuel (seen.Pieces g) (at + 1 + body_of g) (drop (1 + body_of g) bytes))
+unfoldable pub stream_from : ℕ → Seen → ℕ → List ℕ → Stream
+stream_from zero so_far at bytes = stop CutRecord at
+stream_from (suc fuel) so_far at bytes =
+    elim (record_at so_far bytes) [
+      | Piece g ↦ piece g (take (body_of g) (drop 1 bytes)) (stream_from fuel (seen.Pieces g) (at + 1 + body_of g) (drop (1 + body_of g) bytes))
       | End ↦ end
       | Refused a ↦ stop a at
     ]
 
-unfoldable pub streamOf : List ℕ → Stream
-streamOf bytes = streamFrom (suc (length bytes)) seen.Nothing 0 bytes
+unfoldable pub stream_of : List ℕ → Stream
+stream_of bytes = stream_from (suc (length bytes)) seen.Nothing 0 bytes
 
 -- what is left of a stream from an offset on
-unfoldable pub streamAt : Seen → ℕ → List ℕ → Stream
-streamAt so_far at bytes = streamFrom (suc (length (drop at bytes))) so_far at (drop at bytes)
+unfoldable pub stream_at : Seen → ℕ → List ℕ → Stream
+stream_at so_far at bytes = stream_from (suc (length (drop at bytes))) so_far at (drop at bytes)
 
 -- the records of some pieces, as `write` leaves each
-unfoldable pub recordsOf : Geometry → List (List ℕ) → List ℕ
-recordsOf g [] = []
-recordsOf g (p ∷ ps) = kind_of g ∷ (p ++ recordsOf g ps)
+unfoldable pub records_of : Geometry → List (List ℕ) → List ℕ
+records_of g [] = []
+records_of g (p ∷ ps) = kind_of g ∷ (p ++ records_of g ps)
 
 -- the stream that is these pieces alone
-unfoldable pub ofPieces : Geometry → List (List ℕ) → Stream
-ofPieces g [] = end
-ofPieces g (p ∷ ps) = piece g p (ofPieces g ps)
+unfoldable pub of_pieces : Geometry → List (List ℕ) → Stream
+of_pieces g [] = end
+of_pieces g (p ∷ ps) = piece g p (of_pieces g ps)

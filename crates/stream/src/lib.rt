@@ -3,7 +3,7 @@
 ghost use Rattle.std.specs.Prelude.{◌≡◌};
 ghost use Rattle.std.proofs.Math.Option.{some};
 ghost use Rattle.stream.specs.Geometries.{pieces_of, length_of, kind_of, body_of};
-ghost use Rattle.stream.specs.Records.{fitsIn, pieceRecord, kindRecord, recordAt, Written};
+ghost use Rattle.stream.specs.Records.{fits_in, piece_record, kind_record, record_at, Written};
 
 use answers::Answer;
 
@@ -77,7 +77,7 @@ impl Geometry {
 impl Seen {
     // A piece of this geometry may follow.
     fn fits(self, g: Geometry) -> bool
-        ensures { result ≡ fitsIn self g }
+        ensures { result ≡ fits_in self g }
     {
         match self {
             Seen::Nothing => true,
@@ -88,7 +88,7 @@ impl Seen {
 
 // A piece of the geometry, with so many bytes behind its kind.
 fn piece_record(so_far: Seen, g: Geometry, behind: usize) -> Record
-    ensures { result ≡ pieceRecord so_far behind (some g) }
+    ensures { result ≡ piece_record so_far behind (some g) }
 {
     let mixed = !so_far.fits(g);
     let cut = behind < g.body_len();
@@ -103,7 +103,7 @@ fn piece_record(so_far: Seen, g: Geometry, behind: usize) -> Record
 
 // The record of a kind, with so many bytes behind it.
 pub fn read_kind(so_far: Seen, kind: u8, behind: usize) -> Record
-    ensures { result ≡ kindRecord so_far kind behind }
+    ensures { result ≡ kind_record so_far kind behind }
 {
     match kind {
         0x01 => Record::End,
@@ -116,7 +116,7 @@ pub fn read_kind(so_far: Seen, kind: u8, behind: usize) -> Record
 
 // The record at the front of the bytes.
 pub fn read(so_far: Seen, bytes: &[u8]) -> Record
-    ensures { result ≡ recordAt so_far bytes.now }
+    ensures { result ≡ record_at so_far bytes.now }
 {
     if 0 < bytes.len() {
         return read_kind(so_far, bytes[0], bytes.len() - 1);

@@ -18,5 +18,5 @@ returns-3 : tie.Need-returns-3
 unfolding sized
 returns-3 c = simp (ne_eqb _ _ c.before.before.if1.false, ne_eqb _ _ c.before.if2.false, c.over-limit.ensures)
 
-pub sizes-fit-spec : {M : Type 1} → statement M
-sizes-fit-spec = tie.close (tie.spec returns returns-2 (λ c κs. search rules) returns-3)
+pub sizes_fit_spec : {M : Type 1} → statement M
+sizes_fit_spec = tie.close (tie.spec returns returns-2 (λ c κs. search rules) returns-3)

@@ -5,7 +5,7 @@ use native.Mathlib.Omega.{arith}
 use lib.ListN.{length}
 use borrow.Author.Rules.{rules}
 use Rattle.block.specs.Padding.{marker}
-use Rattle.block.proofs.Filling.{length-filled}
+use Rattle.block.proofs.Filling.{length_filled}
 use Rattle.encoder.proofs.Padded.{length_marked, pads}
 use Rattle.encoder.proofs.pad.Statement.{statement}
 use Rattle.encoder.proofs.pad.Tie as tie
@@ -28,10 +28,10 @@ returns c =
 same_length : tie.Need-same-length
 same_length c =
     let a = c.before.before.before.before.before.before.before.before.before.before.args in
-    ap length (returns c) ∙ length-filled marker (length a.block.now) a.«data».now c.before.before.before.before.before.before.before.before.before.before.requires
+    ap length (returns c) ∙ length_filled marker (length a.block.now) a.«data».now c.before.before.before.before.before.before.before.before.before.before.requires
 
-pub pad-spec : {M : Type 1} → statement M
-pad-spec =
+pub pad_spec : {M : Type 1} → statement M
+pad_spec =
     tie.close
     (tie.spec
     (λ c. search rules)

@@ -11,8 +11,8 @@ invariant-loop high low₀ end low = low ≤ 16
 abbrev decreases-loop : tie.decreases-loop
 decreases-loop high low₀ end low = 16 - low
 
-pub row-spec : {M : Type 1} → statement M
-row-spec =
+pub row_spec : {M : Type 1} → statement M
+row_spec =
     tie.close
     (tie.spec
     invariant-loop

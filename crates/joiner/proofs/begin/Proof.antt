@@ -10,26 +10,26 @@ use Rattle.stream.specs.declared.Geometry.{Geometry}
 use Rattle.stream.specs.Geometries.{body_of}
 use Rattle.reader.specs.declared.Came.{Came}
 use Rattle.reader.specs.declared.Came.TheVariants.{Piece}
-use Rattle.reader.specs.Reading.{bodyIn}
-use Rattle.listing.specs.Lines.{headerLine}
+use Rattle.reader.specs.Reading.{body_in}
+use Rattle.listing.specs.Lines.{header_line}
 use Rattle.listing.proofs.Counting.{put_whole}
-use Rattle.joiner.specs.Machine.{textRoom}
-use Rattle.joiner.proofs.Fronts.{lined-front}
-use Rattle.joiner.proofs.Begins.{begins-start, begins-piece, begins-cut}
+use Rattle.joiner.specs.Machine.{text_room}
+use Rattle.joiner.proofs.Fronts.{lined_front}
+use Rattle.joiner.proofs.Begins.{begins_start, begins_piece, begins_cut}
 use Rattle.joiner.proofs.begin.Statement.{statement}
 use Rattle.joiner.proofs.begin.Tie as tie
 
-header-fits : {n : ℕ} → textRoom ≤ n → length headerLine ≤ n
+header-fits : {n : ℕ} → text_room ≤ n → length header_line ≤ n
 header-fits h = omega arith
 
-body-fits : {came : Came} {g : Geometry} {n size : ℕ} → came ≡ Piece g → n ≡ body_of g → bodyIn came ≤ size → n ≤ size
-unfolding bodyIn
-body-fits e b h = omega (arith, ap bodyIn e)
+body-fits : {came : Came} {g : Geometry} {n size : ℕ} → came ≡ Piece g → n ≡ body_of g → body_in came ≤ size → n ≤ size
+unfolding body_in
+body-fits e b h = omega (arith, ap body_in e)
 
 returns : tie.Need-returns
 returns c =
     let a = c.before.before.before.before.before.before.before.before.before.before.before.before.args in
-    begins-start a.joining a.elements.now a.input.now c.before.before.before.before.before.before.before.enum_told.given.1 (lined-front c.before.before.before.before.before.header-line.ensures (header-fits c.before.before.before.before.before.before.before.before.before.before.before.before.requires.0) _ c.before.n.given.1)
+    begins_start a.joining a.elements.now a.input.now c.before.before.before.before.before.before.before.enum_told.given.1 (lined_front c.before.before.before.before.before.header-line.ensures (header-fits c.before.before.before.before.before.before.before.before.before.before.before.before.requires.0) _ c.before.n.given.1)
 
 returns-2 : tie.Need-returns-2
 returns-2 c = absurd (put_whole c.before.before.before.before.before.header-line.ensures (header-fits c.before.before.before.before.before.before.before.before.before.before.before.before.requires.0) _ c.before.a.given.1)
@@ -41,15 +41,15 @@ slice-aggregate-piece c =
 returns-3 : tie.Need-returns-3
 returns-3 c =
     let a = c.before.before.before.before.before.before.before.before.before.before.before.before.before.before.before.args in
-    begins-piece a.joining a.elements.now a.input.now _ c.before.before.before.before.before.before.before.before.before.before.came.given.1 c.before.before.before.before.before.before.before.before.body-len.ensures c.before.before.before.before.before.before.before.before.before.before.before.before.before.before.before.requires.0 c.before.before.before.before.piece.ensures
+    begins_piece a.joining a.elements.now a.input.now _ c.before.before.before.before.before.before.before.before.before.before.came.given.1 c.before.before.before.before.before.before.before.before.body-len.ensures c.before.before.before.before.before.before.before.before.before.before.before.before.before.before.before.requires.0 c.before.before.before.before.piece.ensures
 
 returns-4 : tie.Need-returns-4
 returns-4 c =
     let a = c.before.before.before.before.before.args in
-    begins-cut a.joining a.elements.now a.input.now c.enum-told2.given.1
+    begins_cut a.joining a.elements.now a.input.now c.enum-told2.given.1
 
-pub begin-spec : {M : Type 1} → statement M
-begin-spec =
+pub begin_spec : {M : Type 1} → statement M
+begin_spec =
     tie.close
     (tie.spec
     (λ c. search rules)

@@ -3,30 +3,30 @@
 use borrow.Author.Rules.{rules}
 use mathlib.Core.Path.{sym}
 use lib.Seq.{length-take-le}
-use Rattle.listing.specs.Listing.{blockRoom}
-use Rattle.joiner.proofs.Ends.{finish-data, finish-alone, finish-always}
+use Rattle.listing.specs.Listing.{block_room}
+use Rattle.joiner.proofs.Ends.{finish_data, finish_alone, finish_always}
 use Rattle.joiner.proofs.finish.Statement.{statement}
 use Rattle.joiner.proofs.finish.Tie as tie
 
 slice-aggregate-finish : tie.Need-slice-aggregate-finish
-slice-aggregate-finish c = sym (length-take-le blockRoom c.before.before.before.before.args.«data».now c.before.before.before.before.requires.1)
+slice-aggregate-finish c = sym (length-take-le block_room c.before.before.before.before.args.«data».now c.before.before.before.before.requires.1)
 
 returns : tie.Need-returns
 returns c =
     let a = c.before.before.before.before.before.before.before.before.before.before.before.before.before.args in
     let f = c.before.before.before.before.before.before.before.finish in
-    finish-data a.joining a.elements.now a.«data».now c.before.before.before.before.before.before.before.before.before.before.before.before.before.requires.1 c.before.before.before.before.before.before.before.before.before.before.before.before.before.requires.0 f.ensures _ _ f.auto.1.1.0 c.before.n.given.1
+    finish_data a.joining a.elements.now a.«data».now c.before.before.before.before.before.before.before.before.before.before.before.before.before.requires.1 c.before.before.before.before.before.before.before.before.before.before.before.before.before.requires.0 f.ensures _ _ f.auto.1.1.0 c.before.n.given.1
 
 returns-2 : tie.Need-returns-2
 returns-2 c =
     let a = c.before.before.before.before.before.before.before.before.before.before.before.before.before.args in
     let f = c.before.before.before.before.before.before.before.finish in
-    finish-alone a.joining a.elements.now a.«data».now c.before.before.before.before.before.before.before.before.before.before.before.before.before.requires.1 c.before.before.before.before.before.before.before.before.before.before.before.before.before.requires.0 f.ensures _ f.auto.1.1.0 c.before.size.given.1
+    finish_alone a.joining a.elements.now a.«data».now c.before.before.before.before.before.before.before.before.before.before.before.before.before.requires.1 c.before.before.before.before.before.before.before.before.before.before.before.before.before.requires.0 f.ensures _ f.auto.1.1.0 c.before.size.given.1
 
 returns-3 : tie.Need-returns-3
 returns-3 c =
     let a = c.before.before.before.before.before.before.before.before.before.before.before.before.args in
-    absurd (finish-always a.joining a.elements.now a.«data».now c.before.before.before.before.before.before.before.before.before.before.before.before.requires.1 c.before.before.before.before.before.before.before.before.before.before.before.before.requires.0 c.before.before.before.before.before.before.finish.ensures _ c.enum_told.given.1)
+    absurd (finish_always a.joining a.elements.now a.«data».now c.before.before.before.before.before.before.before.before.before.before.before.before.requires.1 c.before.before.before.before.before.before.before.before.before.before.before.before.requires.0 c.before.before.before.before.before.before.finish.ensures _ c.enum_told.given.1)
 
 pub finish_spec : {M : Type 1} → statement M
 finish_spec =

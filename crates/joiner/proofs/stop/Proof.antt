@@ -1,7 +1,7 @@
 -- `joiner::stop` meets its contract: no line of a stop is longer than the room that is left.
 -- Assumes nothing.
 use borrow.Author.Rules.{rules}
-use Rattle.joiner.proofs.Ends.{stops, stops-always}
+use Rattle.joiner.proofs.Ends.{stops, stops_always}
 use Rattle.joiner.proofs.stop.Statement.{statement}
 use Rattle.joiner.proofs.stop.Tie as tie
 
@@ -13,10 +13,10 @@ returns c =
 returns-2 : tie.Need-returns-2
 returns-2 c =
     let a = c.before.before.before.before.before.before.before.args in
-    absurd (stops-always a.at a.answer c.before.before.before.before.stop-line.ensures c.before.before.before.before.before.before.before.requires _ c.enum_told.given.1)
+    absurd (stops_always a.at a.answer c.before.before.before.before.stop-line.ensures c.before.before.before.before.before.before.before.requires _ c.enum_told.given.1)
 
-pub stop-spec : {M : Type 1} → statement M
-stop-spec =
+pub stop_spec : {M : Type 1} → statement M
+stop_spec =
     tie.close
     (tie.spec
     (λ c κs. search rules)

@@ -6,7 +6,7 @@ use Prim.Native.Nat.{ℕ}
 use native.Mathlib.Omega.{arith}
 use borrow.Author.Rules.{rules}
 use lib.Seq.{length-take-le}
-use Rattle.listing.specs.Lines.{pieceLine}
+use Rattle.listing.specs.Lines.{piece_line}
 use Rattle.listing.specs.Puts.{Lined}
 use Rattle.listing.proofs.Putting.{starts, grows}
 use Rattle.listing.proofs.piece_line.Statement.{statement}
@@ -21,7 +21,7 @@ slice-aggregate-put-line : tie.Need-slice-aggregate-put-line
 slice-aggregate-put-line c = sym (length-take-le _ _ (omega arith))
 
 returns : tie.Need-returns
-unfolding pieceLine
+unfolding piece_line
 returns c =
     let s = grows (starts _) c.before.before.before.before.before.before.before.before.before.before.before.before.before.before.before.before.put-number.ensures.0 in
     let s = grows s c.before.before.before.before.before.before.before.before.before.before.before.before.put-number2.ensures.0 in
@@ -31,8 +31,8 @@ returns c =
     let p = c.before.before.put-line in
     subst (λ (l : List ℕ). Lined l a.out.now p.result p.new.1.0) (s.front ∙ simp (append_assoc, c.before.before.before.before.before.before.before.before.before.before.before.before.before.number.ensures)) p.ensures
 
-pub piece-line-spec : {M : Type 1} → statement M
-piece-line-spec =
+pub piece_line_spec : {M : Type 1} → statement M
+piece_line_spec =
     tie.close
     (tie.spec
     (λ c. search rules)

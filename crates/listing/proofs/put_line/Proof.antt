@@ -15,7 +15,7 @@ returns-2 c =
     let a = c.before.before.before.before.before.before.before.args in
     placed c.before.before.before.before.if1.false e.0 (e.1 ∙ λ j. take-length a.line.now j ++ drop (sym e.0 j) a.out.now)
 
-pub put-line-spec : {M : Type 1} → statement M
-put-line-spec =
+pub put_line_spec : {M : Type 1} → statement M
+put_line_spec =
     tie.close
     (tie.spec (λ c. refused c.if1.true) (λ c κs. search rules) (λ c. search rules) returns-2)

@@ -7,7 +7,7 @@ use native.Mathlib.Omega.{arith}
 use borrow.Author.Rules.{rules}
 use lib.ListN.{replicate}
 use lib.Seq.{length-take-le}
-use Rattle.listing.specs.Lines.{stopLine}
+use Rattle.listing.specs.Lines.{stop_line}
 use Rattle.listing.specs.Puts.{Lined}
 use Rattle.listing.proofs.Putting.{starts_with, grows}
 use Rattle.listing.proofs.stop_line.Statement.{statement}
@@ -17,7 +17,7 @@ slice-aggregate-put-line : tie.Need-slice-aggregate-put-line
 slice-aggregate-put-line c = sym (length-take-le _ _ (omega arith))
 
 returns : tie.Need-returns
-unfolding stopLine
+unfolding stop_line
 returns c =
     let e = c.before.before.before.before.before.before.before.before.before.before.before.before.before.copy.ensures in
     let s = starts_with (115 ∷ 116 ∷ 111 ∷ 112 ∷ 32 ∷ []) (replicate 84 0) e.0 e.1 in
@@ -27,8 +27,8 @@ returns c =
     let p = c.before.before.put-line in
     subst (λ (l : List ℕ). Lined l a.out.now p.result p.new.1.0) (s.front ∙ simp (append_assoc, c.before.before.before.before.before.before.before.before.before.before.number.ensures)) p.ensures
 
-pub stop-line-spec : {M : Type 1} → statement M
-stop-line-spec =
+pub stop_line_spec : {M : Type 1} → statement M
+stop_line_spec =
     tie.close
     (tie.spec
     (λ c. search rules)

@@ -12,5 +12,5 @@ returns c = no_byte c.before.before.args.so_far c.before.before.args.input.now c
 returns-2 : tie.Need-returns-2
 returns-2 c = c.read-kind.ensures ∙ a_byte c.before.before.before.before.args.so_far c.before.before.before.before.args.input.now c.before.before.if1.false
 
-pub opened-spec : {M : Type 1} → statement M
-opened-spec = tie.close (tie.spec returns (λ c. search rules) (λ c κs. search rules) returns-2)
+pub opened_spec : {M : Type 1} → statement M
+opened_spec = tie.close (tie.spec returns (λ c. search rules) (λ c κs. search rules) returns-2)

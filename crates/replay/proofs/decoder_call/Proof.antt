@@ -6,8 +6,8 @@ use lib.Seq.{length-take-le}
 use Rattle.replay.proofs.decoder_call.Statement.{statement}
 use Rattle.replay.proofs.decoder_call.Tie as tie
 
-pub decoder-call-spec : {M : Type 1} → statement M
-decoder-call-spec =
+pub decoder_call_spec : {M : Type 1} → statement M
+decoder_call_spec =
     tie.close
     (tie.spec
     (λ c κs. search rules)

@@ -6,8 +6,8 @@ use lib.Seq.{length-take-le}
 use Rattle.replay.proofs.encoder_call.Statement.{statement}
 use Rattle.replay.proofs.encoder_call.Tie as tie
 
-pub encoder-call-spec : {M : Type 1} → statement M
-encoder-call-spec =
+pub encoder_call_spec : {M : Type 1} → statement M
+encoder_call_spec =
     tie.close
     (tie.spec
     (λ c κs. search rules)

@@ -6,8 +6,8 @@ use borrow.Author.Rules.{rules}
 use Rattle.replay.proofs.loaded.Statement.{statement}
 use Rattle.replay.proofs.loaded.Tie as tie
 
-pub loaded-spec : {M : Type 1} → statement M
-loaded-spec =
+pub loaded_spec : {M : Type 1} → statement M
+loaded_spec =
     tie.close
     (tie.spec
     (λ c κs. search rules)

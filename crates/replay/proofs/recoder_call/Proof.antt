@@ -6,8 +6,8 @@ use lib.Seq.{length-take-le}
 use Rattle.replay.proofs.recoder_call.Statement.{statement}
 use Rattle.replay.proofs.recoder_call.Tie as tie
 
-pub recoder-call-spec : {M : Type 1} → statement M
-recoder-call-spec =
+pub recoder_call_spec : {M : Type 1} → statement M
+recoder_call_spec =
     tie.close
     (tie.spec
     (λ c κs. search rules)

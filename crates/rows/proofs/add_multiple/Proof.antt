@@ -7,22 +7,22 @@ use lib.ListN.{length, length-set}
 use borrow.Author.Rules.{rules}
 use Rattle.galois.specs.Gf.{◌⊕◌}
 use Rattle.galois.specs.FieldLaws.{FieldLaws}
-use Rattle.galois.specs.Multiples.{multiplesOf}
+use Rattle.galois.specs.Multiples.{multiples_of}
 use Rattle.field.specs.FieldOf.{field_of}
-use Rattle.linear.specs.Rows.{addMultiple}
-use Rattle.rows.proofs.Turned.{Turned, starts, finds, turns, ends-all}
-use Rattle.rows.proofs.RowLaws.{length-added, getD-added}
+use Rattle.linear.specs.Rows.{add_multiple}
+use Rattle.rows.proofs.Turned.{Turned, starts, finds, turns, ends_all}
+use Rattle.rows.proofs.RowLaws.{length_added, get_or_added}
 use Rattle.rows.proofs.add_multiple.Statement.{statement}
 use Rattle.rows.proofs.add_multiple.Tie as tie
 
 abbrev invariant-loop : tie.invariant-loop
-invariant-loop dst₀ src q m i₀ dst i = (length dst ≡ length dst₀) × (i ≤ length dst₀) × ((𝓕 : FieldLaws) → m ≡ multiplesOf 𝓕 q → Turned i (addMultiple 𝓕 q src dst₀) dst₀ dst)
+invariant-loop dst₀ src q m i₀ dst i = (length dst ≡ length dst₀) × (i ≤ length dst₀) × ((𝓕 : FieldLaws) → m ≡ multiples_of 𝓕 q → Turned i (add_multiple 𝓕 q src dst₀) dst₀ dst)
 
 abbrev decreases-loop : tie.decreases-loop
 decreases-loop dst₀ src q m i₀ dst i = length dst₀ - i
 
 loop-holds : tie.Need-loop-init invariant-loop decreases-loop
-loop-holds c = (refl, omega arith, λ 𝓕 e. starts 0 (omega arith) (length-added 𝓕 _ _ _) refl)
+loop-holds c = (refl, omega arith, λ 𝓕 e. starts 0 (omega arith) (length_added 𝓕 _ _ _) refl)
 
 slice-read-dst : tie.Need-slice-read-dst invariant-loop decreases-loop
 slice-read-dst c = search rules
@@ -49,7 +49,7 @@ loop-again c =
       omega arith,
       λ 𝓕 e. turns 0 (l.invariant.2 𝓕 e) h
           ((λ j. finds 0 (l.invariant.2 𝓕 e) h j ⊕ c.sum-chosen.ensures 𝓕 a.q e j)
-          ∙ sym (getD-added 𝓕 a.q a.src.now a.dst.now l.i k h)),
+          ∙ sym (get_or_added 𝓕 a.q a.src.now a.dst.now l.i k h)),
     )
 
 same_length : tie.Need-same-length invariant-loop decreases-loop
@@ -58,10 +58,10 @@ same_length c = search rules
 returns : tie.Need-returns invariant-loop decreases-loop
 returns c =
     let a = c.before.before.before.before.before.args in
-    ends-all (c.before.loop.invariant.2 (field_of a.f) c.before.before.multiples.ensures) (omega arith)
+    ends_all (c.before.loop.invariant.2 (field_of a.f) c.before.before.multiples.ensures) (omega arith)
 
-pub add-multiple-spec : {M : Type 1} → statement M
-add-multiple-spec =
+pub add_multiple_spec : {M : Type 1} → statement M
+add_multiple_spec =
     tie.close
     (tie.spec
     invariant-loop

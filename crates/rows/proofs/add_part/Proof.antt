@@ -6,14 +6,14 @@ use native.Mathlib.Omega.{arith}
 use lib.ListN.{length}
 use Rattle.galois.specs.Gf.{◌⊕◌}
 use Rattle.rows.specs.Parts.{part_at}
-use Rattle.rows.specs.Outcomes.{addRow}
-use Rattle.rows.proofs.RowLaws.{length-sum, getD-sum}
-use Rattle.rows.proofs.PartLaws.{Reaching, apart, length_part, part-starts, part-ends, finds-from, finds-to, part-turns}
+use Rattle.rows.specs.Outcomes.{add_row}
+use Rattle.rows.proofs.RowLaws.{length_sum, get_or_sum}
+use Rattle.rows.proofs.PartLaws.{Reaching, apart, length_part, part_starts, part_ends, finds_from, finds_to, part_turns}
 use Rattle.rows.proofs.add_part.Statement.{statement}
 use Rattle.rows.proofs.add_part.Tie as tie
 
 abbrev invariant-loop : tie.invariant-loop
-invariant-loop buffer₀ from to len i₀ buffer i = Reaching from to len i (addRow (part_at from len buffer₀) (part_at to len buffer₀)) buffer₀ buffer
+invariant-loop buffer₀ from to len i₀ buffer i = Reaching from to len i (add_row (part_at from len buffer₀) (part_at to len buffer₀)) buffer₀ buffer
 
 abbrev decreases-loop : tie.decreases-loop
 decreases-loop buffer₀ from to len i₀ buffer i = len - i
@@ -22,7 +22,7 @@ loop-holds : tie.Need-loop-init invariant-loop decreases-loop
 loop-holds c =
     let p = c.args.p in
     let a = apart p (length c.args.buffer.now) c.requires in
-    part-starts a (length-sum _ _ ∙ length_part p.to p.len c.args.buffer.now a.to_in)
+    part_starts a (length_sum _ _ ∙ length_part p.to p.len c.args.buffer.now a.to_in)
 
 loop-again : tie.Need-loop-preserved invariant-loop decreases-loop
 loop-again c =
@@ -30,17 +30,17 @@ loop-again c =
     let b = c.before.before.before.before.args.buffer.now in
     let r = c.before.before.before.loop.invariant in
     let h : c.before.before.before.loop.i < p.len = omega arith in
-    part-turns r h
-    ((λ j. finds-to r h j ⊕ finds-from r h j)
-    ∙ sym (getD-sum (part_at p.from p.len b) (part_at p.to p.len b) c.before.before.before.loop.i
+    part_turns r h
+    ((λ j. finds_to r h j ⊕ finds_from r h j)
+    ∙ sym (get_or_sum (part_at p.from p.len b) (part_at p.to p.len b) c.before.before.before.loop.i
     (omega (arith, length_part p.from p.len b r.apart.from_in))
     (omega (arith, length_part p.to p.len b r.apart.to_in))))
 
 returns : tie.Need-returns invariant-loop decreases-loop
-returns c = part-ends c.before.loop.invariant (omega arith)
+returns c = part_ends c.before.loop.invariant (omega arith)
 
-pub add-part-spec : {M : Type 1} → statement M
-add-part-spec =
+pub add_part_spec : {M : Type 1} → statement M
+add_part_spec =
     tie.close
     (tie.spec
     invariant-loop

@@ -15,5 +15,5 @@ returns-2 c =
     let odd : c.before.args.b % 2 ≡ 1 = omega arith in
     sym (ap (λ (d : ℕ). d * c.before.args.m) odd ∙ one-mul c.before.args.m)
 
-pub chosen-by-spec : {M : Type 1} → statement M
-chosen-by-spec = tie.close (tie.spec returns returns-2)
+pub chosen_by_spec : {M : Type 1} → statement M
+chosen_by_spec = tie.close (tie.spec returns returns-2)

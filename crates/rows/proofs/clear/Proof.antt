@@ -4,7 +4,7 @@ use mathlib.Core.Path.{refl, sym}
 use Prim.Native.Nat.{◌-◌, ◌<◌}
 use native.Mathlib.Omega.{arith}
 use lib.ListN.{length, replicate, length-replicate, get_or-replicate}
-use Rattle.rows.proofs.Turned.{Turned, starts, turns, ends-all}
+use Rattle.rows.proofs.Turned.{Turned, starts, turns, ends_all}
 use Rattle.rows.proofs.clear.Statement.{statement}
 use Rattle.rows.proofs.clear.Tie as tie
 
@@ -23,7 +23,7 @@ loop-again c =
     turns 0 c.before.loop.invariant h (sym (get_or-replicate (length c.before.before.args.vec.now) c.before.loop.i 0 0 h))
 
 returns : tie.Need-returns invariant-loop decreases-loop
-returns c = ends-all c.before.loop.invariant (omega arith)
+returns c = ends_all c.before.loop.invariant (omega arith)
 
 pub clear_spec : {M : Type 1} → statement M
 clear_spec =

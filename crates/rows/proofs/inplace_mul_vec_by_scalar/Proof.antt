@@ -5,8 +5,8 @@ use Prim.Native.Nat.{ℕ}
 use native.Mathlib.Omega.{arith}
 use borrow.Author.Rules.{rules}
 use Rattle.field.specs.FieldOf.{field_of}
-use Rattle.linear.specs.Rows.{scaleRow}
-use Rattle.rows.proofs.RowLaws.{scaled-zero, scaled-one}
+use Rattle.linear.specs.Rows.{scale_row}
+use Rattle.rows.proofs.RowLaws.{scaled_zero, scaled_one}
 use Rattle.rows.proofs.inplace_mul_vec_by_scalar.Statement.{statement}
 use Rattle.rows.proofs.inplace_mul_vec_by_scalar.Tie as tie
 
@@ -15,8 +15,8 @@ returns c =
     let a = c.before.before.before.before.before.before.args in
     record {
       left =
-          c.before.before.clear.ensures ∙ scaled-zero (field_of a.f) a.vec.now
-          ∙ ap (λ (q : ℕ). scaleRow (field_of a.f) q a.vec.now) (sym c.before.before.before.before.match.keys1);
+          c.before.before.clear.ensures ∙ scaled_zero (field_of a.f) a.vec.now
+          ∙ ap (λ (q : ℕ). scale_row (field_of a.f) q a.vec.now) (sym c.before.before.before.before.match.keys1);
     }
 
 returns-2 : tie.Need-returns-2
@@ -24,12 +24,12 @@ returns-2 c =
     let a = c.before.before.args in
     record {
       left =
-          sym (ap (λ (q : ℕ). scaleRow (field_of a.f) q a.vec.now) c.match.keys2
-          ∙ scaled-one (field_of a.f) a.vec.now (λ i. omega (arith, c.before.slice-known.given i)));
+          sym (ap (λ (q : ℕ). scale_row (field_of a.f) q a.vec.now) c.match.keys2
+          ∙ scaled_one (field_of a.f) a.vec.now (λ i. omega (arith, c.before.slice-known.given i)));
     }
 
-pub inplace-mul-vec-by-scalar-spec : {M : Type 1} → statement M
-inplace-mul-vec-by-scalar-spec =
+pub inplace_mul_vec_by_scalar_spec : {M : Type 1} → statement M
+inplace_mul_vec_by_scalar_spec =
     tie.close
     (tie.spec
     (λ c κs. search rules)

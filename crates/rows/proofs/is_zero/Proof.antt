@@ -5,13 +5,13 @@ use Prim.Native.Nat.{◌-◌, ◌≤◌}
 use native.Mathlib.Omega.{arith}
 use borrow.Author.Rules.{rules}
 use lib.ListN.{length, drop, drop_of_length-le}
-use Rattle.linear.specs.Rows.{allZero}
-use Rattle.rows.proofs.Zero.{zero-goes-on, zero-fails}
+use Rattle.linear.specs.Rows.{all_zero}
+use Rattle.rows.proofs.Zero.{zero_goes_on, zero_fails}
 use Rattle.rows.proofs.is_zero.Statement.{statement}
 use Rattle.rows.proofs.is_zero.Tie as tie
 
 abbrev invariant-loop : tie.invariant-loop
-invariant-loop part i₀ i = (i ≤ length part) × (allZero part ≡ allZero (drop i part))
+invariant-loop part i₀ i = (i ≤ length part) × (all_zero part ≡ all_zero (drop i part))
 
 abbrev decreases-loop : tie.decreases-loop
 decreases-loop part i₀ i = length part - i
@@ -22,19 +22,19 @@ loop-holds c = (omega arith, refl)
 returns : tie.Need-returns invariant-loop decreases-loop
 returns c =
     let t = c.before.before in
-    sym (t.before.loop.invariant.1 ∙ zero-fails t.before.before.args.part.now t.before.loop.i t.loop-test.true c.if1.true)
+    sym (t.before.loop.invariant.1 ∙ zero_fails t.before.before.args.part.now t.before.loop.i t.loop-test.true c.if1.true)
 
 loop-again : tie.Need-loop-preserved invariant-loop decreases-loop
 loop-again c =
     let t = c.before.before in
-    (omega arith, t.before.loop.invariant.1 ∙ zero-goes-on t.before.before.args.part.now t.before.loop.i t.loop-test.true c.if1.false)
+    (omega arith, t.before.loop.invariant.1 ∙ zero_goes_on t.before.before.args.part.now t.before.loop.i t.loop-test.true c.if1.false)
 
 returns-2 : tie.Need-returns-2 invariant-loop decreases-loop
-unfolding allZero
-returns-2 c = sym (c.before.loop.invariant.1 ∙ ap allZero (drop_of_length-le c.before.before.args.part.now c.loop-test.false))
+unfolding all_zero
+returns-2 c = sym (c.before.loop.invariant.1 ∙ ap all_zero (drop_of_length-le c.before.before.args.part.now c.loop-test.false))
 
-pub is-zero-spec : {M : Type 1} → statement M
-is-zero-spec =
+pub is_zero_spec : {M : Type 1} → statement M
+is_zero_spec =
     tie.close
     (tie.spec
     invariant-loop

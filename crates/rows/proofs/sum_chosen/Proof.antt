@@ -7,8 +7,8 @@ use native.Mathlib.Omega.{arith}
 use borrow.Author.Rules.{rules}
 use lib.ListN.{get_or}
 use Rattle.galois.specs.Gf.{◌⊕◌}
-use Rattle.galois.specs.Multiples.{multiplesOf}
-use Rattle.galois.proofs.Sum.{⊕-assoc, ⊕-zero}
+use Rattle.galois.specs.Multiples.{multiples_of}
+use Rattle.galois.proofs.Sum.{⊕_assoc, ⊕_zero}
 use Rattle.galois.proofs.Multiples.{chosen, by_bits}
 use Rattle.rows.proofs.sum_chosen.Statement.{statement}
 use Rattle.rows.proofs.sum_chosen.Tie as tie
@@ -24,10 +24,10 @@ eight b m0 m1 m2 m3 m4 m5 m6 m7 =
     let d5 : b / 16 / 2 ≡ b / 32 = omega arith in
     let d6 : b / 32 / 2 ≡ b / 64 = omega arith in
     let d7 : b / 64 / 2 ≡ b / 128 = omega arith in
-    simp (d2, d3, d4, d5, d6, d7, ⊕-assoc, ⊕-zero)
+    simp (d2, d3, d4, d5, d6, d7, ⊕_assoc, ⊕_zero)
 
 returns : tie.Need-returns
-unfolding multiplesOf
+unfolding multiples_of
 returns c = λ 𝓕 q e.
     let b : ℕ = c.before.before.before.before.before.before.before.before.args.b in
     (λ j. (c.before.before.before.before.before.before.before.chosen_by.ensures ∙ (λ i. b % 2 * get_or (e i) 0 0)) j
@@ -41,8 +41,8 @@ returns c = λ 𝓕 q e.
     ∙ eight b (𝓕.mul q 1) (𝓕.mul q 2) (𝓕.mul q 4) (𝓕.mul q 8) (𝓕.mul q 16) (𝓕.mul q 32) (𝓕.mul q 64) (𝓕.mul q 128)
     ∙ by_bits 𝓕 q b (omega arith)
 
-pub sum-chosen-spec : {M : Type 1} → statement M
-sum-chosen-spec =
+pub sum_chosen_spec : {M : Type 1} → statement M
+sum_chosen_spec =
     tie.close
     (tie.spec
     (λ c. search rules)

@@ -17,8 +17,8 @@ slice-aggregate-emptied-2 c =
     let a = c.before.before.before.before.before.args in
     sym (length-take-le a.used a.out.now c.before.before.before.before.before.requires.0)
 
-pub make-room-spec : {M : Type 1} → statement M
-make-room-spec =
+pub make_room_spec : {M : Type 1} → statement M
+make_room_spec =
     tie.close
     (tie.spec
     (λ c. search rules)

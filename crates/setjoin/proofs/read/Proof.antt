@@ -13,7 +13,7 @@ use borrow.Author.Rules.{rules}
 use Prim.Native.Nat.{◌-◌, ◌≤◌}
 use lib.ListN.{length}
 use borrow.Rule.Slice.PartMut.{put_mid, same_len_mid}
-use Rattle.setjoin.proofs.Within.{sum-in}
+use Rattle.setjoin.proofs.Within.{sum_in}
 
 abbrev invariant-loop : tie.invariant-loop
 invariant-loop buf₀ done₀ t6 buf done = (length buf ≡ length buf₀) × (done ≤ length buf)
@@ -86,19 +86,19 @@ returns-2 c =
 add_done : tie.Need-overflow-add-done invariant-loop decreases-loop
 add_done c =
     let s = same_len_mid c.before.before.before.before.before.before.before.before.before.before.loop.done (length c.before.before.before.before.before.before.before.before.before.before.loop.buf - c.before.before.before.before.before.before.before.before.before.before.loop.done) c.before.before.before.before.before.before.before.before.before.before.loop.buf c.before.before.before.before.before.before.before.read.new.1.0 c.before.before.before.before.before.before.before.read.auto.1.0 in
-    let n = sum-in c.before.before.before.before.before.before.before.before.before.before.loop.done c.before.count.result (put_mid c.before.before.before.before.before.before.before.before.before.before.loop.done (length c.before.before.before.before.before.before.before.before.before.before.loop.buf - c.before.before.before.before.before.before.before.before.before.before.loop.done) c.before.before.before.before.before.before.before.before.before.before.loop.buf c.before.before.before.before.before.before.before.read.new.1.0) (omega arith) c.before.count.ensures.0.0 in
+    let n = sum_in c.before.before.before.before.before.before.before.before.before.before.loop.done c.before.count.result (put_mid c.before.before.before.before.before.before.before.before.before.before.loop.done (length c.before.before.before.before.before.before.before.before.before.before.loop.buf - c.before.before.before.before.before.before.before.before.before.before.loop.done) c.before.before.before.before.before.before.before.before.before.before.loop.buf c.before.before.before.before.before.before.before.read.new.1.0) (omega arith) c.before.count.ensures.0.0 in
     omega arith
 
 loop-less : tie.Need-loop-smaller invariant-loop decreases-loop
 loop-less c =
     let s = same_len_mid c.before.before.before.before.before.before.before.before.before.before.loop.done (length c.before.before.before.before.before.before.before.before.before.before.loop.buf - c.before.before.before.before.before.before.before.before.before.before.loop.done) c.before.before.before.before.before.before.before.before.before.before.loop.buf c.before.before.before.before.before.before.before.read.new.1.0 c.before.before.before.before.before.before.before.read.auto.1.0 in
-    let n = sum-in c.before.before.before.before.before.before.before.before.before.before.loop.done c.before.count.result (put_mid c.before.before.before.before.before.before.before.before.before.before.loop.done (length c.before.before.before.before.before.before.before.before.before.before.loop.buf - c.before.before.before.before.before.before.before.before.before.before.loop.done) c.before.before.before.before.before.before.before.before.before.before.loop.buf c.before.before.before.before.before.before.before.read.new.1.0) (omega arith) c.before.count.ensures.0.0 in
+    let n = sum_in c.before.before.before.before.before.before.before.before.before.before.loop.done c.before.count.result (put_mid c.before.before.before.before.before.before.before.before.before.before.loop.done (length c.before.before.before.before.before.before.before.before.before.before.loop.buf - c.before.before.before.before.before.before.before.before.before.before.loop.done) c.before.before.before.before.before.before.before.before.before.before.loop.buf c.before.before.before.before.before.before.before.read.new.1.0) (omega arith) c.before.count.ensures.0.0 in
     omega arith
 
 loop-again : tie.Need-loop-preserved invariant-loop decreases-loop
 loop-again c =
     let s = same_len_mid c.before.before.before.before.before.before.before.before.before.before.loop.done (length c.before.before.before.before.before.before.before.before.before.before.loop.buf - c.before.before.before.before.before.before.before.before.before.before.loop.done) c.before.before.before.before.before.before.before.before.before.before.loop.buf c.before.before.before.before.before.before.before.read.new.1.0 c.before.before.before.before.before.before.before.read.auto.1.0 in
-    let n = sum-in c.before.before.before.before.before.before.before.before.before.before.loop.done c.before.count.result (put_mid c.before.before.before.before.before.before.before.before.before.before.loop.done (length c.before.before.before.before.before.before.before.before.before.before.loop.buf - c.before.before.before.before.before.before.before.before.before.before.loop.done) c.before.before.before.before.before.before.before.before.before.before.loop.buf c.before.before.before.before.before.before.before.read.new.1.0) (omega arith) c.before.count.ensures.0.0 in
+    let n = sum_in c.before.before.before.before.before.before.before.before.before.before.loop.done c.before.count.result (put_mid c.before.before.before.before.before.before.before.before.before.before.loop.done (length c.before.before.before.before.before.before.before.before.before.before.loop.buf - c.before.before.before.before.before.before.before.before.before.before.loop.done) c.before.before.before.before.before.before.before.before.before.before.loop.buf c.before.before.before.before.before.before.before.read.new.1.0) (omega arith) c.before.count.ensures.0.0 in
     (s ∙ c.before.before.before.before.before.before.before.before.before.before.loop.invariant.0, n)
 
 same-length-3 : tie.Need-same-length-3 invariant-loop decreases-loop

@@ -11,8 +11,8 @@ slice-aggregate-write c =
     let a = c.before.before.before.before.before.before.args in
     sym (length-take-le a.n a.«data».now c.before.if1.false)
 
-pub rebuilt-spec : {M : Type 1} → statement M
-rebuilt-spec =
+pub rebuilt_spec : {M : Type 1} → statement M
+rebuilt_spec =
     tie.close
     (tie.spec
     (λ c. search rules)

@@ -8,7 +8,7 @@ use native.Mathlib.Omega.{arith}
 use borrow.Rule.Slice.PartMut.{same_len_mid}
 use lib.ListN.{length}
 use lib.Seq.{length-take-le}
-use Rattle.setjoin.proofs.Within.{starts-in, room_in, text_in, put_in, put_back, last-in}
+use Rattle.setjoin.proofs.Within.{starts_in, room_in, text_in, put_in, put_back, last_in}
 use Rattle.setjoin.proofs.run.Statement.{statement}
 use Rattle.setjoin.proofs.run.Tie as tie
 
@@ -45,11 +45,11 @@ same-length-4 c =
 
 sub-turn : tie.Need-overflow-sub-turn invariant-loop decreases-loop
 sub-turn c =
-    starts-in c.before.before.before.before.before.before.make-room.ensures c.before.before.before.before.from.given.1
+    starts_in c.before.before.before.before.before.before.make-room.ensures c.before.before.before.before.from.given.1
 
 part-turn-start : tie.Need-slice-bounds-turn-start invariant-loop decreases-loop
 part-turn-start c =
-    starts-in c.before.before.before.before.before.before.make-room.ensures c.before.before.before.before.from.given.1
+    starts_in c.before.before.before.before.before.before.make-room.ensures c.before.before.before.before.from.given.1
 
 turn-requires : tie.Need-turn-requires invariant-loop decreases-loop
 turn-requires c κs =
@@ -75,25 +75,25 @@ add-last : tie.Need-overflow-add-last invariant-loop decreases-loop
 add-last c =
     let good = c.before.before.before.before.before.before.before.before.before.before.before.before.before.before.before.before.before.before.before.before.before.before.before.before.before.before.before.before.well-formed.1.1.1.1 in
     let same = c.before.before.before.before.before.before.before.before.before.before.before.before.before.before.before.before.before.before.before.before.before.before.loop.invariant.3 in
-    omega (arith, put_in c.before.before.before.before.before.before.before.before.before.before.before.before.before.before.before.before.before.from.given.0.0 (c.before.next.given.0.1.0 + c.before.next.given.0.1.1.0) c.before.before.before.before.before.before.before.before.before.before.before.before.before.before.before.before.before.before.before.before.before.before.loop.out c.before.before.before.before.before.before.before.before.before.before.before.turn.new.1.1.1.1.0 (starts-in c.before.before.before.before.before.before.before.before.before.before.before.before.before.before.before.before.before.before.before.make-room.ensures c.before.before.before.before.before.before.before.before.before.before.before.before.before.before.before.before.before.from.given.1) (text_in c.before.before.before.before.before.before.before.before.before.before.before.turn.ensures c.before.next.given.1) c.before.before.before.before.before.before.before.before.before.before.before.turn.auto.1.1.1.1.0)
+    omega (arith, put_in c.before.before.before.before.before.before.before.before.before.before.before.before.before.before.before.before.before.from.given.0.0 (c.before.next.given.0.1.0 + c.before.next.given.0.1.1.0) c.before.before.before.before.before.before.before.before.before.before.before.before.before.before.before.before.before.before.before.before.before.before.loop.out c.before.before.before.before.before.before.before.before.before.before.before.turn.new.1.1.1.1.0 (starts_in c.before.before.before.before.before.before.before.before.before.before.before.before.before.before.before.before.before.before.before.make-room.ensures c.before.before.before.before.before.before.before.before.before.before.before.before.before.before.before.before.before.from.given.1) (text_in c.before.before.before.before.before.before.before.before.before.before.before.turn.ensures c.before.next.given.1) c.before.before.before.before.before.before.before.before.before.before.before.turn.auto.1.1.1.1.0)
 
 add-used : tie.Need-overflow-add-used invariant-loop decreases-loop
 add-used c =
     let good = c.before.before.before.before.before.before.before.before.before.before.before.before.before.before.before.before.before.before.before.before.before.before.before.before.before.before.before.before.well-formed.1.1.1.1 in
     let same = c.before.before.before.before.before.before.before.before.before.before.before.before.before.before.before.before.before.before.before.before.before.before.loop.invariant.3 in
-    omega (arith, put_in c.before.before.before.before.before.before.before.before.before.before.before.before.before.before.before.before.before.from.given.0.0 (c.before.next.given.0.1.0 + c.before.next.given.0.1.1.0) c.before.before.before.before.before.before.before.before.before.before.before.before.before.before.before.before.before.before.before.before.before.before.loop.out c.before.before.before.before.before.before.before.before.before.before.before.turn.new.1.1.1.1.0 (starts-in c.before.before.before.before.before.before.before.before.before.before.before.before.before.before.before.before.before.before.before.make-room.ensures c.before.before.before.before.before.before.before.before.before.before.before.before.before.before.before.before.before.from.given.1) (text_in c.before.before.before.before.before.before.before.before.before.before.before.turn.ensures c.before.next.given.1) c.before.before.before.before.before.before.before.before.before.before.before.turn.auto.1.1.1.1.0)
+    omega (arith, put_in c.before.before.before.before.before.before.before.before.before.before.before.before.before.before.before.before.before.from.given.0.0 (c.before.next.given.0.1.0 + c.before.next.given.0.1.1.0) c.before.before.before.before.before.before.before.before.before.before.before.before.before.before.before.before.before.before.before.before.before.before.loop.out c.before.before.before.before.before.before.before.before.before.before.before.turn.new.1.1.1.1.0 (starts_in c.before.before.before.before.before.before.before.before.before.before.before.before.before.before.before.before.before.before.before.make-room.ensures c.before.before.before.before.before.before.before.before.before.before.before.before.before.before.before.before.before.from.given.1) (text_in c.before.before.before.before.before.before.before.before.before.before.before.turn.ensures c.before.next.given.1) c.before.before.before.before.before.before.before.before.before.before.before.turn.auto.1.1.1.1.0)
 
 slice-reshare-prefix-end : tie.Need-slice-reshare-prefix-end invariant-loop decreases-loop
 slice-reshare-prefix-end c =
-    omega (arith, put_back c.before.before.before.before.before.before.before.before.before.before.before.before.before.before.before.before.before.before.before.from.given.0.0 (c.before.before.before.next.given.0.1.0 + c.before.before.before.next.given.0.1.1.0) c.before.before.before.before.before.before.before.before.before.before.before.before.before.before.before.before.before.before.before.before.before.before.before.before.loop.out c.before.before.before.before.before.before.before.before.before.before.before.before.before.turn.new.1.1.1.1.0 (starts-in c.before.before.before.before.before.before.before.before.before.before.before.before.before.before.before.before.before.before.before.before.before.make-room.ensures c.before.before.before.before.before.before.before.before.before.before.before.before.before.before.before.before.before.before.before.from.given.1) (text_in c.before.before.before.before.before.before.before.before.before.before.before.before.before.turn.ensures c.before.before.before.next.given.1) c.before.before.before.before.before.before.before.before.before.before.before.before.before.turn.auto.1.1.1.1.0)
+    omega (arith, put_back c.before.before.before.before.before.before.before.before.before.before.before.before.before.before.before.before.before.before.before.from.given.0.0 (c.before.before.before.next.given.0.1.0 + c.before.before.before.next.given.0.1.1.0) c.before.before.before.before.before.before.before.before.before.before.before.before.before.before.before.before.before.before.before.before.before.before.before.before.loop.out c.before.before.before.before.before.before.before.before.before.before.before.before.before.turn.new.1.1.1.1.0 (starts_in c.before.before.before.before.before.before.before.before.before.before.before.before.before.before.before.before.before.before.before.before.before.make-room.ensures c.before.before.before.before.before.before.before.before.before.before.before.before.before.before.before.before.before.before.before.from.given.1) (text_in c.before.before.before.before.before.before.before.before.before.before.before.before.before.turn.ensures c.before.before.before.next.given.1) c.before.before.before.before.before.before.before.before.before.before.before.before.before.turn.auto.1.1.1.1.0)
 
 slice-aggregate-end : tie.Need-slice-aggregate-end invariant-loop decreases-loop
 slice-aggregate-end c =
-    sym (length-take-le _ _ (omega (arith, put_back c.before.before.before.before.before.before.before.before.before.before.before.before.before.before.before.before.before.before.before.before.from.given.0.0 (c.before.before.before.before.next.given.0.1.0 + c.before.before.before.before.next.given.0.1.1.0) c.before.before.before.before.before.before.before.before.before.before.before.before.before.before.before.before.before.before.before.before.before.before.before.before.before.loop.out c.before.before.before.before.before.before.before.before.before.before.before.before.before.before.turn.new.1.1.1.1.0 (starts-in c.before.before.before.before.before.before.before.before.before.before.before.before.before.before.before.before.before.before.before.before.before.before.make-room.ensures c.before.before.before.before.before.before.before.before.before.before.before.before.before.before.before.before.before.before.before.before.from.given.1) (text_in c.before.before.before.before.before.before.before.before.before.before.before.before.before.before.turn.ensures c.before.before.before.before.next.given.1) c.before.before.before.before.before.before.before.before.before.before.before.before.before.before.turn.auto.1.1.1.1.0)))
+    sym (length-take-le _ _ (omega (arith, put_back c.before.before.before.before.before.before.before.before.before.before.before.before.before.before.before.before.before.before.before.before.from.given.0.0 (c.before.before.before.before.next.given.0.1.0 + c.before.before.before.before.next.given.0.1.1.0) c.before.before.before.before.before.before.before.before.before.before.before.before.before.before.before.before.before.before.before.before.before.before.before.before.before.loop.out c.before.before.before.before.before.before.before.before.before.before.before.before.before.before.turn.new.1.1.1.1.0 (starts_in c.before.before.before.before.before.before.before.before.before.before.before.before.before.before.before.before.before.before.before.before.before.before.make-room.ensures c.before.before.before.before.before.before.before.before.before.before.before.before.before.before.before.before.before.before.before.before.from.given.1) (text_in c.before.before.before.before.before.before.before.before.before.before.before.before.before.before.turn.ensures c.before.before.before.before.next.given.1) c.before.before.before.before.before.before.before.before.before.before.before.before.before.before.turn.auto.1.1.1.1.0)))
 
 end-requires : tie.Need-end-requires invariant-loop decreases-loop
 end-requires c κs =
-    last-in c.before.before.before.before.before.before.before.before.before.before.before.before.before.before.before.before.before.before.before.before.before.from.given.0.0 c.before.before.before.before.before.next.given.0.1.0 c.before.before.before.before.before.next.given.0.1.1.0 c.before.before.before.before.before.before.before.before.before.before.before.before.before.before.before.before.before.before.before.before.before.before.before.before.before.before.loop.out c.before.before.before.before.before.before.before.before.before.before.before.before.before.before.before.turn.new.1.1.1.1.0 (starts-in c.before.before.before.before.before.before.before.before.before.before.before.before.before.before.before.before.before.before.before.before.before.before.before.make-room.ensures c.before.before.before.before.before.before.before.before.before.before.before.before.before.before.before.before.before.before.before.before.before.from.given.1) (text_in c.before.before.before.before.before.before.before.before.before.before.before.before.before.before.before.turn.ensures c.before.before.before.before.before.next.given.1) c.before.before.before.before.before.before.before.before.before.before.before.before.before.before.before.turn.auto.1.1.1.1.0
+    last_in c.before.before.before.before.before.before.before.before.before.before.before.before.before.before.before.before.before.before.before.before.before.from.given.0.0 c.before.before.before.before.before.next.given.0.1.0 c.before.before.before.before.before.next.given.0.1.1.0 c.before.before.before.before.before.before.before.before.before.before.before.before.before.before.before.before.before.before.before.before.before.before.before.before.before.before.loop.out c.before.before.before.before.before.before.before.before.before.before.before.before.before.before.before.turn.new.1.1.1.1.0 (starts_in c.before.before.before.before.before.before.before.before.before.before.before.before.before.before.before.before.before.before.before.before.before.before.before.make-room.ensures c.before.before.before.before.before.before.before.before.before.before.before.before.before.before.before.before.before.before.before.before.before.from.given.1) (text_in c.before.before.before.before.before.before.before.before.before.before.before.before.before.before.before.turn.ensures c.before.before.before.before.before.next.given.1) c.before.before.before.before.before.before.before.before.before.before.before.before.before.before.before.turn.auto.1.1.1.1.0
 
 same-length-9 : tie.Need-same-length-9 invariant-loop decreases-loop
 same-length-9 c =
@@ -121,7 +121,7 @@ loop-less c =
 
 loop-again : tie.Need-loop-preserved invariant-loop decreases-loop
 loop-again c =
-    (c.before.before.before.before.before.before.before.before.before.before.before.before.before.turn.auto.1.0 ∙ c.before.before.before.before.before.before.before.before.before.before.before.before.before.before.before.before.before.before.before.before.before.before.before.before.loop.invariant.0, c.before.before.before.before.before.before.before.before.before.before.before.before.before.turn.auto.1.1.0 ∙ c.before.before.before.before.before.before.before.before.before.before.before.before.before.before.before.before.before.before.before.before.before.before.before.before.loop.invariant.1, c.before.before.before.before.before.before.before.before.before.before.before.before.before.turn.auto.1.1.1.0 ∙ c.before.before.before.before.before.before.before.before.before.before.before.before.before.before.before.before.before.before.before.before.before.before.before.before.loop.invariant.2, same_len_mid c.before.before.before.before.before.before.before.before.before.before.before.before.before.before.before.before.before.before.before.from.given.0.0 (length c.before.before.before.before.before.before.before.before.before.before.before.before.before.before.before.before.before.before.before.before.before.before.before.before.loop.out - c.before.before.before.before.before.before.before.before.before.before.before.before.before.before.before.before.before.before.before.from.given.0.0) c.before.before.before.before.before.before.before.before.before.before.before.before.before.before.before.before.before.before.before.before.before.before.before.before.loop.out c.before.before.before.before.before.before.before.before.before.before.before.before.before.turn.new.1.1.1.1.0 c.before.before.before.before.before.before.before.before.before.before.before.before.before.turn.auto.1.1.1.1.0 ∙ c.before.before.before.before.before.before.before.before.before.before.before.before.before.before.before.before.before.before.before.before.before.before.before.before.loop.invariant.3, omega (arith, put_back c.before.before.before.before.before.before.before.before.before.before.before.before.before.before.before.before.before.before.before.from.given.0.0 (c.before.before.before.next.given.0.1.0 + c.before.before.before.next.given.0.1.1.0) c.before.before.before.before.before.before.before.before.before.before.before.before.before.before.before.before.before.before.before.before.before.before.before.before.loop.out c.before.before.before.before.before.before.before.before.before.before.before.before.before.turn.new.1.1.1.1.0 (starts-in c.before.before.before.before.before.before.before.before.before.before.before.before.before.before.before.before.before.before.before.before.before.make-room.ensures c.before.before.before.before.before.before.before.before.before.before.before.before.before.before.before.before.before.before.before.from.given.1) (text_in c.before.before.before.before.before.before.before.before.before.before.before.before.before.turn.ensures c.before.before.before.next.given.1) c.before.before.before.before.before.before.before.before.before.before.before.before.before.turn.auto.1.1.1.1.0))
+    (c.before.before.before.before.before.before.before.before.before.before.before.before.before.turn.auto.1.0 ∙ c.before.before.before.before.before.before.before.before.before.before.before.before.before.before.before.before.before.before.before.before.before.before.before.before.loop.invariant.0, c.before.before.before.before.before.before.before.before.before.before.before.before.before.turn.auto.1.1.0 ∙ c.before.before.before.before.before.before.before.before.before.before.before.before.before.before.before.before.before.before.before.before.before.before.before.before.loop.invariant.1, c.before.before.before.before.before.before.before.before.before.before.before.before.before.turn.auto.1.1.1.0 ∙ c.before.before.before.before.before.before.before.before.before.before.before.before.before.before.before.before.before.before.before.before.before.before.before.before.loop.invariant.2, same_len_mid c.before.before.before.before.before.before.before.before.before.before.before.before.before.before.before.before.before.before.before.from.given.0.0 (length c.before.before.before.before.before.before.before.before.before.before.before.before.before.before.before.before.before.before.before.before.before.before.before.before.loop.out - c.before.before.before.before.before.before.before.before.before.before.before.before.before.before.before.before.before.before.before.from.given.0.0) c.before.before.before.before.before.before.before.before.before.before.before.before.before.before.before.before.before.before.before.before.before.before.before.before.loop.out c.before.before.before.before.before.before.before.before.before.before.before.before.before.turn.new.1.1.1.1.0 c.before.before.before.before.before.before.before.before.before.before.before.before.before.turn.auto.1.1.1.1.0 ∙ c.before.before.before.before.before.before.before.before.before.before.before.before.before.before.before.before.before.before.before.before.before.before.before.before.loop.invariant.3, omega (arith, put_back c.before.before.before.before.before.before.before.before.before.before.before.before.before.before.before.before.before.before.before.from.given.0.0 (c.before.before.before.next.given.0.1.0 + c.before.before.before.next.given.0.1.1.0) c.before.before.before.before.before.before.before.before.before.before.before.before.before.before.before.before.before.before.before.before.before.before.before.before.loop.out c.before.before.before.before.before.before.before.before.before.before.before.before.before.turn.new.1.1.1.1.0 (starts_in c.before.before.before.before.before.before.before.before.before.before.before.before.before.before.before.before.before.before.before.before.before.make-room.ensures c.before.before.before.before.before.before.before.before.before.before.before.before.before.before.before.before.before.before.before.from.given.1) (text_in c.before.before.before.before.before.before.before.before.before.before.before.before.before.turn.ensures c.before.before.before.next.given.1) c.before.before.before.before.before.before.before.before.before.before.before.before.before.turn.auto.1.1.1.1.0))
 
 same-length-13 : tie.Need-same-length-13 invariant-loop decreases-loop
 same-length-13 c =

@@ -6,31 +6,31 @@ use mathlib.Core.List.{◌++◌}
 use native.Mathlib.Omega.{arith}
 use lib.ListN.{drop}
 use lib.Seq.{length-take-le}
-use Rattle.setjoin.proofs.Within.{read-in, want-short, fed-in}
+use Rattle.setjoin.proofs.Within.{read_in, want_short, fed_in}
 use Rattle.setjoin.proofs.turn.Statement.{statement}
 use Rattle.setjoin.proofs.turn.Tie as tie
 
 slice-relend-prefix-read : tie.Need-slice-relend-prefix-read
-slice-relend-prefix-read c = omega (arith, c.wants.ensures, want-short c.before.before.before.before.before.args.m.reader.place, c.before.before.before.before.before.requires.0)
+slice-relend-prefix-read c = omega (arith, c.wants.ensures, want_short c.before.before.before.before.before.args.m.reader.place, c.before.before.before.before.before.requires.0)
 
 slice-aggregate-read : tie.Need-slice-aggregate-read
 slice-aggregate-read c =
     let a = c.before.before.before.before.before.before.args in
-    sym (length-take-le c.before.wants.result a.input.now (omega (arith, c.before.wants.ensures, want-short a.m.reader.place, c.before.before.before.before.before.before.requires.0)))
+    sym (length-take-le c.before.wants.result a.input.now (omega (arith, c.before.wants.ensures, want_short a.m.reader.place, c.before.before.before.before.before.before.requires.0)))
 
 slice-reshare-prefix-feed : tie.Need-slice-reshare-prefix-feed
 slice-reshare-prefix-feed c =
     let r = c.before.before.read in
-    read-in r.result r.new.0 (drop c.before.before.before.before.wants.result c.before.before.before.before.before.before.before.before.before.args.input.now) r.ensures
+    read_in r.result r.new.0 (drop c.before.before.before.before.wants.result c.before.before.before.before.before.before.before.before.before.args.input.now) r.ensures
 
 slice-aggregate-feed : tie.Need-slice-aggregate-feed
 slice-aggregate-feed c =
     let r = c.before.before.before.read in
     let rest = drop c.before.before.before.before.before.wants.result c.before.before.before.before.before.before.before.before.before.before.args.input.now in
-    sym (length-take-le r.result (r.new.0 ++ rest) (read-in r.result r.new.0 rest r.ensures))
+    sym (length-take-le r.result (r.new.0 ++ rest) (read_in r.result r.new.0 rest r.ensures))
 
 returns : tie.Need-returns
-returns c = fed-in c.before.before.before.before.before.before.feed.ensures
+returns c = fed_in c.before.before.before.before.before.before.feed.ensures
 
 pub turn_spec : {M : Type 1} → statement M
 turn_spec =

@@ -3,19 +3,19 @@
 use native.Mathlib.Omega.{arith}
 use borrow.Author.Rules.{rules}
 use lib.ListN.{get_or}
-use Rattle.decoder.specs.Entries.{decoderOf}
-use Rattle.stored.specs.Forms.{formRows, formDecoder}
+use Rattle.decoder.specs.Entries.{decoder_of}
+use Rattle.stored.specs.Forms.{form_rows, form_decoder}
 use Rattle.stored.proofs.decoder_in.Statement.{statement}
 use Rattle.stored.proofs.decoder_in.Tie as tie
 
 returns : tie.Need-returns
-unfolding formRows formDecoder
+unfolding form_rows form_decoder
 returns c =
     let t = c.before.before in
-    λ i. decoderOf (c.before.piece-count.ensures i) (c.piece-byte-len.ensures i) (get_or t.before.before.before.args.form.now 1 0) (t.taken_in.ensures i)
+    λ i. decoder_of (c.before.piece-count.ensures i) (c.piece-byte-len.ensures i) (get_or t.before.before.before.args.form.now 1 0) (t.taken_in.ensures i)
 
-pub decoder-in-spec : {M : Type 1} → statement M
-decoder-in-spec =
+pub decoder_in_spec : {M : Type 1} → statement M
+decoder_in_spec =
     tie.close
     (tie.spec
     (λ c. search rules)

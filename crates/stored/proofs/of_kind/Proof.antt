@@ -2,25 +2,25 @@
 -- Assumes nothing.
 use mathlib.Core.Path.{sym, ap}
 use borrow.Author.Tests.{ne_eqb}
-use Rattle.stored.specs.Forms.{storedGeometry}
+use Rattle.stored.specs.Forms.{stored_geometry}
 use Rattle.stored.proofs.of_kind.Statement.{statement}
 use Rattle.stored.proofs.of_kind.Tie as tie
 
 returns : tie.Need-returns
-unfolding storedGeometry
-returns c = sym (ap storedGeometry c.match.keys1)
+unfolding stored_geometry
+returns c = sym (ap stored_geometry c.match.keys1)
 
 returns-2 : tie.Need-returns-2
-unfolding storedGeometry
-returns-2 c = sym (ap storedGeometry c.match.keys2)
+unfolding stored_geometry
+returns-2 c = sym (ap stored_geometry c.match.keys2)
 
 returns-3 : tie.Need-returns-3
-unfolding storedGeometry
-returns-3 c = sym (ap storedGeometry c.match.keys3)
+unfolding stored_geometry
+returns-3 c = sym (ap stored_geometry c.match.keys3)
 
 returns-4 : tie.Need-returns-4
-unfolding storedGeometry
+unfolding stored_geometry
 returns-4 c = let n = c.match.rest in simp (ne_eqb _ _ n.0.0.1, ne_eqb _ _ n.0.1, ne_eqb _ _ n.1)
 
-pub of-kind-spec : {M : Type 1} → statement M
-of-kind-spec = tie.close (tie.spec returns returns-2 returns-3 returns-4)
+pub of_kind_spec : {M : Type 1} → statement M
+of_kind_spec = tie.close (tie.spec returns returns-2 returns-3 returns-4)

@@ -5,7 +5,7 @@ use mathlib.Core.Logic.{⊎_elim}
 use mathlib.Core.Bool.{Bool, true, false, ◌&&◌, true≢false}
 use lib.Dec.{eqb}
 use borrow.Author.Tests.{eq-eqb, ne_eqb}
-use Rattle.stored.specs.Forms.{sizeGeometry}
+use Rattle.stored.specs.Forms.{size_geometry}
 use Rattle.stored.proofs.of_sizes.Statement.{statement}
 use Rattle.stored.proofs.of_sizes.Tie as tie
 
@@ -38,22 +38,22 @@ not_third c =
     (λ w. first-fails (eqb a.piece-count 32) (eqb a.piece-byte-len 480) (ne_eqb _ _ w.left)) c.if5.branch
 
 returns : tie.Need-returns
-unfolding sizeGeometry
+unfolding size_geometry
 returns c = simp (eq-eqb _ _ c.before.if1.true, c.if2.true)
 
 returns-2 : tie.Need-returns-2
-unfolding sizeGeometry
+unfolding size_geometry
 returns-2 c = simp (not_first c.before.before, eq-eqb _ _ c.before.if3.true, c.if4.true)
 
 returns-3 : tie.Need-returns-3
-unfolding sizeGeometry
+unfolding size_geometry
 returns-3 c =
     let t = c.before.before in
     simp (not_first t.before, not-second t, eq-eqb _ _ c.before.if5.true, c.if6.true)
 
 returns-4 : tie.Need-returns-4
-unfolding sizeGeometry
+unfolding size_geometry
 returns-4 c = simp (not_first c.before.before, not-second c.before, not_third c)
 
-pub of-sizes-spec : {M : Type 1} → statement M
-of-sizes-spec = tie.close (tie.spec returns returns-2 returns-3 returns-4)
+pub of_sizes_spec : {M : Type 1} → statement M
+of_sizes_spec = tie.close (tie.spec returns returns-2 returns-3 returns-4)

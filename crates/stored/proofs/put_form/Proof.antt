@@ -11,11 +11,11 @@ use lib.Seq.{drop-drop}
 use Rattle.linear.specs.Buffer.{flat}
 use Rattle.linear.proofs.Buffer.{length_part}
 use Rattle.stream.specs.Geometries.{body_of}
-use Rattle.decoder.specs.Records.{rowsIn, takenBy, held_rows}
-use Rattle.stored.specs.Forms.{matrixSize, form_of}
+use Rattle.decoder.specs.Records.{rows_in, taken_by, held_rows}
+use Rattle.stored.specs.Forms.{matrix_size, form_of}
 use Rattle.decoder.proofs.Sound.{Holds, holds}
-use Rattle.stored.proofs.Numbers.{few-pieces, small}
-use Rattle.stored.proofs.Forms.{held_bytes, held-inside, held-room}
+use Rattle.stored.proofs.Numbers.{few_pieces, small}
+use Rattle.stored.proofs.Forms.{held_bytes, held_inside, held_room}
 use Rattle.stored.proofs.put_form.Statement.{statement}
 use Rattle.stored.proofs.put_form.Tie as tie
 
@@ -44,24 +44,24 @@ part-long a b c d n out h = length_part 4 n (headed a b c d out) (subst (λ (m :
 numbers : (c : tie.Start) → Holds c.args.d (length c.args.elements.now)
 numbers c = holds c.args.d (length c.args.elements.now) c.requires.1.0
 
-few-rows : (c : tie.Start) → rowsIn c.args.d ≤ 32
-few-rows c = omega (arith, (numbers c).numbers.rows-pieces, c.requires.0.0, few-pieces c.args.g)
+few-rows : (c : tie.Start) → rows_in c.args.d ≤ 32
+few-rows c = omega (arith, (numbers c).numbers.rows_pieces, c.requires.0.0, few_pieces c.args.g)
 
 -- the held bytes lie within the form's matrix, and within the decoder's
 abbrev Held : ℕ → tie.Start → Type 0
-Held body c = (rowsIn c.args.d * body ≤ matrixSize c.args.g) × (rowsIn c.args.d * body ≤ length c.args.elements.now)
+Held body c = (rows_in c.args.d * body ≤ matrix_size c.args.g) × (rows_in c.args.d * body ≤ length c.args.elements.now)
 
 held : (c : tie.After-body-len) → Held c.body-len.result c.before.before.before.before.before
 held c =
     let s = c.before.before.before.before.before in
     let a = s.args in
-    let (k-is, L-is) = s.requires.0 in
+    let (k_is, l_is) = s.requires.0 in
     let n = numbers s in
     subst (λ (b : ℕ). Held b s) (sym c.body-len.ensures)
-    (held-inside a.g a.d a.elements.now k-is L-is n.numbers.rows-pieces n.room, held-room a.g a.d a.elements.now k-is L-is n.numbers.rows-pieces n.room)
+    (held_inside a.g a.d a.elements.now k_is l_is n.numbers.rows_pieces n.room, held_room a.g a.d a.elements.now k_is l_is n.numbers.rows_pieces n.room)
 
 -- the part that is lent
-lent : (c : tie.After-form-len) → (c.form-len.result - 4 ≡ matrixSize c.before.before.before.before.args.g)
+lent : (c : tie.After-form-len) → (c.form-len.result - 4 ≡ matrix_size c.before.before.before.before.args.g)
     × (4 + (c.form-len.result - 4) ≤ length c.before.before.before.before.args.out.now)
 lent c = (omega (arith, c.form-len.ensures), omega (arith, c.form-len.ensures, c.before.before.before.before.requires.1.1))
 
@@ -72,8 +72,8 @@ put-matrix-requires c κs =
     let a = f.before.before.before.before.args in
     let (in-form, in-matrix) = held c.before in (
       in-matrix,
-      subst (λ (n : ℕ). rowsIn a.d * c.before.body-len.result ≤ n)
-          (sym (part-long f.before.stored-kind.result (rowsIn a.d) (takenBy a.d / 256) (takenBy a.d % 256) (f.form-len.result - 4) a.out.now
+      subst (λ (n : ℕ). rows_in a.d * c.before.body-len.result ≤ n)
+          (sym (part-long f.before.stored-kind.result (rows_in a.d) (taken_by a.d / 256) (taken_by a.d % 256) (f.form-len.result - 4) a.out.now
           (lent f).1))
           (omega (arith, in-form, (lent f).0)),
     )
@@ -86,22 +86,22 @@ returns c =
     let f = b.before in
     let s = f.before.before.before.before in
     let a = s.args in
-    let (k-is, L-is) = s.requires.0 in
+    let (k_is, l_is) = s.requires.0 in
     let (n-is, fits) = lent f in
     let n : ℕ = f.form-len.result - 4 in
-    let r : ℕ = rowsIn a.d in
+    let r : ℕ = rows_in a.d in
     let kind : ℕ = f.before.stored-kind.result in
-    let long : length (take n (drop 4 (headed kind r (takenBy a.d / 256) (takenBy a.d % 256) a.out.now))) ≡ matrixSize a.g =
-    part-long kind r (takenBy a.d / 256) (takenBy a.d % 256) n a.out.now fits ∙ n-is in
-    let part-is : p.put-matrix.new.1.1.0 ≡ flat (held_rows a.d a.elements.now) ++ replicate (matrixSize a.g - r * body_of a.g) 0 =
+    let long : length (take n (drop 4 (headed kind r (taken_by a.d / 256) (taken_by a.d % 256) a.out.now))) ≡ matrix_size a.g =
+    part-long kind r (taken_by a.d / 256) (taken_by a.d % 256) n a.out.now fits ∙ n-is in
+    let part_is : p.put-matrix.new.1.1.0 ≡ flat (held_rows a.d a.elements.now) ++ replicate (matrix_size a.g - r * body_of a.g) 0 =
     p.put-matrix.ensures
     ∙ (λ i. take (r * b.body-len.ensures i) a.elements.now ++ replicate (long i - r * b.body-len.ensures i) 0)
-    ∙ ap (λ (l : List ℕ). l ++ replicate (matrixSize a.g - r * body_of a.g) 0) (sym (held_bytes a.g a.d a.elements.now k-is L-is)) in
-    put-behind kind r (takenBy a.d / 256) (takenBy a.d % 256) n a.out.now p.put-matrix.new.1.1.0 fits
-    ∙ (λ i. f.before.stored-kind.ensures i ∷ r ∷ takenBy a.d / 256 ∷ takenBy a.d % 256 ∷ (part-is i ++ drop (4 + n-is i) a.out.now))
+    ∙ ap (λ (l : List ℕ). l ++ replicate (matrix_size a.g - r * body_of a.g) 0) (sym (held_bytes a.g a.d a.elements.now k_is l_is)) in
+    put-behind kind r (taken_by a.d / 256) (taken_by a.d % 256) n a.out.now p.put-matrix.new.1.1.0 fits
+    ∙ (λ i. f.before.stored-kind.ensures i ∷ r ∷ taken_by a.d / 256 ∷ taken_by a.d % 256 ∷ (part_is i ++ drop (4 + n-is i) a.out.now))
 
-pub put-form-spec : {M : Type 1} → statement M
-put-form-spec =
+pub put_form_spec : {M : Type 1} → statement M
+put_form_spec =
     tie.close
     (tie.spec
     (λ c κs. search rules)

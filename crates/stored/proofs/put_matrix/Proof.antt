@@ -40,8 +40,8 @@ returns c =
     let a = m.before.before.before.before.before.args in
     filled a.held a.elements.now a.part.now (omega arith) (omega arith) m.copy.new.1.0 t.clear.new.0 m.copy.ensures.1 t.clear.ensures
 
-pub put-matrix-spec : {M : Type 1} → statement M
-put-matrix-spec =
+pub put_matrix_spec : {M : Type 1} → statement M
+put_matrix_spec =
     tie.close
     (tie.spec
     (λ c. let a = c.before.before.before.args in sym (length-take-le a.held a.elements.now (omega arith)))

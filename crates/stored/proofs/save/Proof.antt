@@ -6,32 +6,32 @@ use Prim.Native.Nat.{ℕ, ◌≤◌, ◌<◌}
 use borrow.Author.Rules.{rules}
 use borrow.Author.Tests.{not-true, not-false}
 use lib.ListN.{length}
-use Rattle.decoder.specs.Records.{k_of, LOf, badState}
+use Rattle.decoder.specs.Records.{k_of, l_of, bad_state}
 use Rattle.stored.specs.declared.Saved.TheVariants as saved
 use Rattle.stored.specs.declared.Listed.TheVariants as listed
-use Rattle.stored.specs.Forms.{formSize, sizeGeometry}
+use Rattle.stored.specs.Forms.{form_size, size_geometry}
 use Rattle.stored.specs.Entries.{Saving}
-use Rattle.stored.proofs.Forms.{sizes-are}
-use Rattle.stored.proofs.Entries.{saves-bad, saves-unlisted, saves-no-room, saves}
+use Rattle.stored.proofs.Forms.{sizes_are}
+use Rattle.stored.proofs.Entries.{saves_bad, saves_unlisted, saves_no_room, saves}
 use Rattle.stored.proofs.save.Statement.{statement}
 use Rattle.stored.proofs.save.Tie as tie
 
 returns : tie.Need-returns
-returns c = let a = c.before.before.before.before.args in saves-bad a.d a.elements.now a.out.now (not-false (badState _ _) (sym c.before.holds.ensures ∙ not-true c.before.holds.result c.if1.true))
+returns c = let a = c.before.before.before.before.args in saves_bad a.d a.elements.now a.out.now (not-false (bad_state _ _) (sym c.before.holds.ensures ∙ not-true c.before.holds.result c.if1.true))
 
 -- the record is good
-fine : (c : tie.Else1) → badState c.before.before.before.before.args.d (length c.before.before.before.before.args.elements.now) ≡ false
+fine : (c : tie.Else1) → bad_state c.before.before.before.before.args.d (length c.before.before.before.before.args.elements.now) ≡ false
 fine c = not-true _ (sym c.before.holds.ensures ∙ not-false c.before.holds.result c.if1.false)
 
 returns-2 : tie.Need-returns-2
 returns-2 c =
     let s = c.before.before in
     let a = s.before.before.before.before.before.args in
-    saves-unlisted a.d a.elements.now a.out.now (fine s.before) (sym s.of-sizes.ensures ∙ c.enum_told.given.1)
+    saves_unlisted a.d a.elements.now a.out.now (fine s.before) (sym s.of-sizes.ensures ∙ c.enum_told.given.1)
 
 -- its sizes are listed
 size : (c : tie.After-g)
-    → sizeGeometry (k_of c.before.before.before.before.before.before.before.args.d) (LOf c.before.before.before.before.before.before.before.args.d)
+    → size_geometry (k_of c.before.before.before.before.before.before.before.args.d) (l_of c.before.before.before.before.before.before.before.args.d)
     ≡ listed.Of c.g.given.0.0
 size c = sym c.before.before.of-sizes.ensures ∙ c.g.given.1
 
@@ -40,7 +40,7 @@ returns-3 c =
     let h = c.before.before.before in
     let s = h.before.before in
     let a = s.before.before.before.before.before.args in
-    saves-no-room a.d a.elements.now a.out.now (fine s.before) h.g.given.0.0 (size h)
+    saves_no_room a.d a.elements.now a.out.now (fine s.before) h.g.given.0.0 (size h)
     (subst (λ (n : ℕ). length a.out.now < n) c.before.form-len.ensures c.if2.true)
 
 put-form-requires : tie.Need-put-form-requires
@@ -49,7 +49,7 @@ put-form-requires c κs =
     let h = f.before.before in
     let s = h.before.before in
     let a = s.before.before.before.before.before.args in (
-      sizes-are (k_of a.d) (LOf a.d) h.g.given.0.0 (size h),
+      sizes_are (k_of a.d) (l_of a.d) h.g.given.0.0 (size h),
       (fine s.before, subst (λ (n : ℕ). n ≤ length a.out.now) f.form-len.ensures c.before.if2.false),
     )
 
@@ -60,13 +60,13 @@ returns-4 c =
     let h = f.before.before in
     let s = h.before.before in
     let a = s.before.before.before.before.before.args in
-    let room : formSize h.g.given.0.0 ≤ length a.out.now =
+    let room : form_size h.g.given.0.0 ≤ length a.out.now =
     subst (λ (n : ℕ). n ≤ length a.out.now) f.form-len.ensures p.before.before.if2.false in
     subst (λ (n : ℕ). Saving a.d a.elements.now a.out.now (saved.Bytes n) p.put-form.new.1.1.1.0) (sym f.form-len.ensures)
     (saves a.d a.elements.now a.out.now (fine s.before) h.g.given.0.0 (size h) room p.put-form.ensures)
 
-pub save-spec : {M : Type 1} → statement M
-save-spec =
+pub save_spec : {M : Type 1} → statement M
+save_spec =
     tie.close
     (tie.spec
     (λ c κs. search rules)

@@ -3,16 +3,16 @@
 use mathlib.Core.Path.{refl}
 use native.Mathlib.Omega.{arith}
 use borrow.Author.Rules.{rules}
-use Rattle.stored.specs.Forms.{formTaken}
+use Rattle.stored.specs.Forms.{form_taken}
 use Rattle.stored.proofs.taken_in.Statement.{statement}
 use Rattle.stored.proofs.taken_in.Tie as tie
 
 returns : tie.Need-returns
-unfolding formTaken
+unfolding form_taken
 returns c = refl
 
-pub taken-in-spec : {M : Type 1} → statement M
-taken-in-spec =
+pub taken_in_spec : {M : Type 1} → statement M
+taken_in_spec =
     tie.close
     (tie.spec
     (λ c. search rules)

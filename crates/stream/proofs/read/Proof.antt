@@ -9,19 +9,19 @@ use lib.ListN.{length, get_or}
 use Rattle.answers.specs.declared.Answer.TheVariants.{CutRecord}
 use Rattle.stream.specs.declared.Seen.{Seen}
 use Rattle.stream.specs.declared.Record.TheVariants.{Refused}
-use Rattle.stream.specs.Records.{kindRecord, recordAt}
+use Rattle.stream.specs.Records.{kind_record, record_at}
 use Rattle.stream.proofs.read.Statement.{statement}
 use Rattle.stream.proofs.read.Tie as tie
 
-none_left : (so_far : Seen) (bytes : List ℕ) → length bytes ≤ 0 → Refused CutRecord ≡ recordAt so_far bytes
-unfolding recordAt
+none_left : (so_far : Seen) (bytes : List ℕ) → length bytes ≤ 0 → Refused CutRecord ≡ record_at so_far bytes
+unfolding record_at
 none_left so_far [] e = refl
 none_left so_far (kind ∷ rest) e = absurd (omega arith)
 
-some_left : (so_far : Seen) (bytes : List ℕ) → 0 < length bytes → kindRecord so_far (get_or bytes 0 0) (length bytes - 1) ≡ recordAt so_far bytes
-unfolding recordAt
+some_left : (so_far : Seen) (bytes : List ℕ) → 0 < length bytes → kind_record so_far (get_or bytes 0 0) (length bytes - 1) ≡ record_at so_far bytes
+unfolding record_at
 some_left so_far [] n = absurd (omega arith)
-some_left so_far (kind ∷ rest) n = ap (kindRecord so_far kind) (omega arith)
+some_left so_far (kind ∷ rest) n = ap (kind_record so_far kind) (omega arith)
 
 pub read_spec : {M : Type 1} → statement M
 read_spec =

@@ -10,18 +10,18 @@ use borrow.Author.Tests.{eq-eqb, ne_eqb}
 use borrow.Rule.Slice.PartMut.{put_mid}
 use lib.ListN.{length, take, drop, set, length-set, drop_of_length-le}
 use lib.Seq.{take_all, take-length}
-use Rattle.stream.specs.Records.{writeRefusal}
+use Rattle.stream.specs.Records.{write_refusal}
 use Rattle.stream.proofs.write.Statement.{statement}
 use Rattle.stream.proofs.write.Tie as tie
 
 returns : tie.Need-returns
-unfolding writeRefusal
+unfolding write_refusal
 returns c =
     let e = c.before.body-len.ensures in
     record { result = simp (← e, ne_eqb _ _ c.if1.true); left = simp (← e, ne_eqb _ _ c.if1.true) }
 
 returns-2 : tie.Need-returns-2
-unfolding writeRefusal
+unfolding write_refusal
 returns-2 c =
     let e = c.before.before.body-len.ensures in
     let s = c.before.if1.false in
@@ -58,7 +58,7 @@ written kind (x ∷ out) piece part l e =
     ap (λ (b : List ℕ). kind ∷ b) ((λ i. is i ++ last i) ∙ append-nil piece)
 
 returns-3 : tie.Need-returns-3
-unfolding writeRefusal behind
+unfolding write_refusal behind
 returns-3 c =
     let t = c.before.before.before.before in
     let e = t.before.before.before.body-len.ensures in

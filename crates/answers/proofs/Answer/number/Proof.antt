@@ -6,8 +6,8 @@ use Rattle.answers.specs.Number.{number_of}
 use Rattle.answers.proofs.Answer.number.Statement.{statement}
 use Rattle.answers.proofs.Answer.number.Tie as tie
 
-pub number-spec : {M : Type 1} → statement M
-number-spec =
+pub number_spec : {M : Type 1} → statement M
+number_spec =
     tie.close
     (tie.spec
     (λ c. search rules)

@@ -9,11 +9,11 @@ use lib.ListN.{length, take, drop}
 use borrow.Author.Rules.{rules}
 use Rattle.linear.proofs.Buffer.{put, length_part}
 use Rattle.decoder.specs.declared.Decoder.{Decoder}
-use Rattle.decoder.specs.Records.{k_of, LOf, FOf}
-use Rattle.decoder.specs.Entries.{blockIn}
+use Rattle.decoder.specs.Records.{k_of, l_of, f_of}
+use Rattle.decoder.specs.Entries.{block_in}
 use Rattle.decoder.proofs.Sound.{holds, row_in}
-use Rattle.decoder.proofs.Payload.{payloads, length-payloads}
-use Rattle.decoder.proofs.Copying.{row-part, copied, Copied, starts, turns, ends}
+use Rattle.decoder.proofs.Payload.{payloads, length_payloads}
+use Rattle.decoder.proofs.Copying.{row_part, copied, Copied, starts, turns, ends}
 use Rattle.decoder.proofs.Decoder.copy_data.Statement.{statement}
 use Rattle.decoder.proofs.Decoder.copy_data.Tie as tie
 
@@ -46,23 +46,23 @@ module _ (c : tie.After-lesser invariant-loop decreases-loop) where
   abbrev n : ℕ
   n = c.lesser.result
 
-  size : n ≡ min (LOf d) (length old - at)
-  size = c.lesser.ensures ∙ ap (λ (l : ℕ). min (LOf d) (l - at)) c.before.before.loop.invariant.long
+  size : n ≡ min (l_of d) (length old - at)
+  size = c.lesser.ensures ∙ ap (λ (l : ℕ). min (l_of d) (l - at)) c.before.before.loop.invariant.long
 
   started : at < length old
   started = omega (arith, c.before.before.loop.invariant.long)
 
   row_below : i < k_of d
-  row_below = lt_of_mul-lt-mul_right (LOf d) (omega (arith, started, c.before.before.loop.invariant.row started))
+  row_below = lt_of_mul-lt-mul_right (l_of d) (omega (arith, started, c.before.before.loop.invariant.row started))
 
-  inside : i * FOf d + FOf d ≤ length elements
+  inside : i * f_of d + f_of d ≤ length elements
   inside = row_in d (holds _ _ c.before.before.before.before.before.requires.0) row_below
 
   some_bytes : 0 < n
   some_bytes = omega (arith, size, started, (holds _ _ c.before.before.before.before.before.requires.0).numbers.some_bytes)
 
   abbrev from : ℕ
-  from = i * FOf d + k_of d
+  from = i * f_of d + k_of d
 
   -- what is copied, and over what
   abbrev src : List ℕ
@@ -81,28 +81,28 @@ module _ (c : tie.After-lesser invariant-loop decreases-loop) where
       ∙ length_part at n now' (omega (arith, size, started, c.before.before.loop.invariant.long))
 
   copies : (last : List ℕ) → last ≡ take (length src) src ++ drop (length src) dst
-      → Copied (payloads (k_of d) (LOf d) (k_of d) elements) old (put at (at + n - at) last now') (LOf d) (i + 1) (at + n)
+      → Copied (payloads (k_of d) (l_of d) (k_of d) elements) old (put at (at + n - at) last now') (l_of d) (i + 1) (at + n)
   copies last e =
       let same : last ≡ src = copied src dst last (dst-size ∙ sym src-size) e in
-      let room : k_of d * FOf d ≤ length elements = (holds _ _ c.before.before.before.before.before.requires.0).room in
-      subst (λ (m : ℕ). Copied (payloads (k_of d) (LOf d) (k_of d) elements) old (put at m last now') (LOf d) (i + 1) (at + n))
+      let room : k_of d * f_of d ≤ length elements = (holds _ _ c.before.before.before.before.before.requires.0).room in
+      subst (λ (m : ℕ). Copied (payloads (k_of d) (l_of d) (k_of d) elements) old (put at m last now') (l_of d) (i + 1) (at + n))
       (sym (add-sub_cancel_left at n))
       (turns last n c.before.before.loop.invariant started
-      (omega (arith, length-payloads (k_of d) (LOf d) (k_of d) elements room, c.before.before.before.before.before.requires.1)) size
+      (omega (arith, length_payloads (k_of d) (l_of d) (k_of d) elements room, c.before.before.before.before.before.requires.1)) size
       (ap length same ∙ src-size)
       (same ∙ ap (λ (m : ℕ). take m (drop from elements)) (add-sub_cancel_left from n)
-      ∙ sym (ap (λ (m : ℕ). take n (drop m (payloads (k_of d) (LOf d) (k_of d) elements))) (c.before.before.loop.invariant.row started)
-      ∙ row-part (k_of d) (LOf d) (k_of d) elements i n row_below (omega (arith, size)) room)))
+      ∙ sym (ap (λ (m : ℕ). take n (drop m (payloads (k_of d) (l_of d) (k_of d) elements))) (c.before.before.loop.invariant.row started)
+      ∙ row_part (k_of d) (l_of d) (k_of d) elements i n row_below (omega (arith, size)) room)))
 
 loop-again : tie.Need-loop-preserved invariant-loop decreases-loop
 loop-again c = copies c.before.before.before.before.before c.before.before.copy.new.1.0 c.before.before.copy.ensures.1
 
 returns : tie.Need-returns invariant-loop decreases-loop
-unfolding blockIn
+unfolding block_in
 returns c = ends c.before.loop.invariant (omega (arith, c.before.loop.invariant.long))
 
-pub copy-data-spec : {M : Type 1} → statement M
-copy-data-spec =
+pub copy_data_spec : {M : Type 1} → statement M
+copy_data_spec =
     tie.close
     (tie.spec
     invariant-loop

@@ -9,27 +9,27 @@ use native.Mathlib.Omega.{arith}
 use lib.ListN.{length, take, drop, drop_of_length-le}
 use borrow.Author.Rules.{rules}
 use Rattle.block.specs.Padding.{marker}
-use Rattle.block.specs.Reading.{lastMarker}
+use Rattle.block.specs.Reading.{last_marker}
 use Rattle.decoder.specs.declared.Decoder.{Decoder}
 use Rattle.decoder.specs.declared.Found.TheVariants.{At, Nothing}
 use Rattle.decoder.specs.Search.{found}
-use Rattle.decoder.specs.Records.{k_of, LOf, FOf}
-use Rattle.decoder.specs.Entries.{blockIn}
-use Rattle.decoder.proofs.Sound.{holds, row_in, block-small}
-use Rattle.decoder.proofs.Search.{found_at, found_nothing, row-marked, row-unmarked}
+use Rattle.decoder.specs.Records.{k_of, l_of, f_of}
+use Rattle.decoder.specs.Entries.{block_in}
+use Rattle.decoder.proofs.Sound.{holds, row_in, block_small}
+use Rattle.decoder.proofs.Search.{found_at, found_nothing, row_marked, row_unmarked}
 use Rattle.decoder.proofs.Marker.{index_in}
-use Rattle.decoder.proofs.Payload.{payloads, length-payloads}
+use Rattle.decoder.proofs.Payload.{payloads, length_payloads}
 use Rattle.decoder.proofs.Decoder.find_marker.Statement.{statement}
 use Rattle.decoder.proofs.Decoder.find_marker.Tie as tie
 
 abbrev invariant-loop : tie.invariant-loop
-invariant-loop elements k len i₀ i = (i ≤ k) × (lastMarker marker (drop (i * len) (payloads k len k elements)) ≡ none)
+invariant-loop elements k len i₀ i = (i ≤ k) × (last_marker marker (drop (i * len) (payloads k len k elements)) ≡ none)
 
 abbrev decreases-loop : tie.decreases-loop
 decreases-loop elements k len i₀ i = i
 
 -- the row that the turn reads lies within the matrix
-inside : (c : tie.In-loop invariant-loop decreases-loop) → (c.before.loop.i - 1) * FOf c.before.before.before.args.self + FOf c.before.before.before.args.self
+inside : (c : tie.In-loop invariant-loop decreases-loop) → (c.before.loop.i - 1) * f_of c.before.before.before.args.self + f_of c.before.before.before.args.self
     ≤ length c.before.before.before.args.elements.now
 inside c = row_in c.before.before.before.args.self (holds _ _ c.before.before.before.requires) (omega arith)
 
@@ -45,62 +45,62 @@ module _ (c : tie.After-last-marker invariant-loop decreases-loop) where
   i = c.before.before.before.loop.i
 
   abbrev row : List ℕ
-  row = take (LOf d) (drop ((i - 1) * FOf d + k_of d) elements)
+  row = take (l_of d) (drop ((i - 1) * f_of d + k_of d) elements)
 
-  searched : c.last-marker.result ≡ found (lastMarker marker row)
+  searched : c.last-marker.result ≡ found (last_marker marker row)
   searched =
       c.last-marker.ensures
-      ∙ ap (λ (n : ℕ). found (lastMarker marker (take n (drop ((i - 1) * FOf d + k_of d) elements))))
-      (add-sub_cancel_left ((i - 1) * FOf d + k_of d) (LOf d))
+      ∙ ap (λ (n : ℕ). found (last_marker marker (take n (drop ((i - 1) * f_of d + k_of d) elements))))
+      (add-sub_cancel_left ((i - 1) * f_of d + k_of d) (l_of d))
 
-  room : k_of d * FOf d ≤ length elements
+  room : k_of d * f_of d ≤ length elements
   room = (holds _ _ c.before.before.before.before.before.requires).room
 
-  marked : (j : ℕ) → c.last-marker.result ≡ At j → lastMarker marker (payloads (k_of d) (LOf d) (k_of d) elements) ≡ some ((i - 1) * LOf d + j)
+  marked : (j : ℕ) → c.last-marker.result ≡ At j → last_marker marker (payloads (k_of d) (l_of d) (k_of d) elements) ≡ some ((i - 1) * l_of d + j)
   marked j e =
-      row-marked marker (k_of d) (LOf d) (k_of d) elements (i - 1) i (omega arith) (omega arith) room c.before.before.before.loop.invariant.1 j
+      row_marked marker (k_of d) (l_of d) (k_of d) elements (i - 1) i (omega arith) (omega arith) room c.before.before.before.loop.invariant.1 j
       (found_at _ j (sym searched ∙ e))
 
-  unmarked : c.last-marker.result ≡ Nothing → lastMarker marker (drop ((i - 1) * LOf d) (payloads (k_of d) (LOf d) (k_of d) elements)) ≡ none
+  unmarked : c.last-marker.result ≡ Nothing → last_marker marker (drop ((i - 1) * l_of d) (payloads (k_of d) (l_of d) (k_of d) elements)) ≡ none
   unmarked e =
-      row-unmarked marker (k_of d) (LOf d) (k_of d) elements (i - 1) i (omega arith) (omega arith) room c.before.before.before.loop.invariant.1
+      row_unmarked marker (k_of d) (l_of d) (k_of d) elements (i - 1) i (omega arith) (omega arith) room c.before.before.before.loop.invariant.1
       (found_nothing _ (sym searched ∙ e))
 
   -- the index found lies within the block
-  below : (j : ℕ) → c.last-marker.result ≡ At j → (i - 1) * LOf d + j < 1048576
+  below : (j : ℕ) → c.last-marker.result ≡ At j → (i - 1) * l_of d + j < 1048576
   below j e =
       let s = (holds _ _ c.before.before.before.before.before.requires).numbers in
-      omega (arith, index_in marker _ _ (marked j e), length-payloads (k_of d) (LOf d) (k_of d) elements room, block-small (k_of d) (LOf d) s.pieces s.bytes)
+      omega (arith, index_in marker _ _ (marked j e), length_payloads (k_of d) (l_of d) (k_of d) elements room, block_small (k_of d) (l_of d) s.pieces s.bytes)
 
 loop-holds : tie.Need-loop-init invariant-loop decreases-loop
-unfolding lastMarker
+unfolding last_marker
 loop-holds c =
     let a = c.before.args in
     let d = a.self in
-    let long = length-payloads (k_of d) (LOf d) (k_of d) a.elements.now (holds _ _ c.before.requires).room in
-    let end : length (payloads (k_of d) (LOf d) (k_of d) a.elements.now) ≤ k_of d * LOf d = omega (arith, long) in
-    (omega arith, ap (lastMarker marker) (drop_of_length-le (payloads (k_of d) (LOf d) (k_of d) a.elements.now) end))
+    let long = length_payloads (k_of d) (l_of d) (k_of d) a.elements.now (holds _ _ c.before.requires).room in
+    let end : length (payloads (k_of d) (l_of d) (k_of d) a.elements.now) ≤ k_of d * l_of d = omega (arith, long) in
+    (omega arith, ap (last_marker marker) (drop_of_length-le (payloads (k_of d) (l_of d) (k_of d) a.elements.now) end))
 
 returns : tie.Need-returns invariant-loop decreases-loop
-unfolding blockIn
+unfolding block_in
 returns c = sym (ap found (marked c.before.before.before _ c.before.f.given.1))
 
 loop-again : tie.Need-loop-preserved invariant-loop decreases-loop
 loop-again c = (omega arith, unmarked c.before.before c.enum_told.given.1)
 
 returns-2 : tie.Need-returns-2 invariant-loop decreases-loop
-unfolding blockIn
+unfolding block_in
 returns-2 c =
     let t = c.before in
     let d = t.before.before.args.self in
     let z : t.loop.i ≡ 0 = omega arith in
     sym (ap found
-    (ap (λ (n : ℕ). lastMarker marker (drop n (payloads (k_of d) (LOf d) (k_of d) t.before.before.args.elements.now)))
-    (sym (zero-mul (LOf d)) ∙ ap (λ (i : ℕ). i * LOf d) (sym z))
+    (ap (λ (n : ℕ). last_marker marker (drop n (payloads (k_of d) (l_of d) (k_of d) t.before.before.args.elements.now)))
+    (sym (zero-mul (l_of d)) ∙ ap (λ (i : ℕ). i * l_of d) (sym z))
     ∙ t.loop.invariant.1))
 
-pub find-marker-spec : {M : Type 1} → statement M
-find-marker-spec =
+pub find_marker_spec : {M : Type 1} → statement M
+find_marker_spec =
     tie.close
     (tie.spec
     invariant-loop

@@ -20,12 +20,12 @@ use Rattle.block.specs.Padding.{marker}
 use Rattle.block.specs.Reading.{reading, answer_of}
 use Rattle.decoder.specs.declared.Decoder.{Decoder}
 use Rattle.decoder.specs.declared.Recovered.TheVariants as recovered
-use Rattle.decoder.specs.Records.{k_of, LOf, badState}
-use Rattle.decoder.specs.Entries.{blockIn, recoverRefusal, Recovery}
-use Rattle.decoder.proofs.Sound.{Holds, holds, block-small}
-use Rattle.decoder.proofs.Payload.{length-payloads}
-use Rattle.decoder.proofs.Search.{data-in}
-use Rattle.decoder.proofs.Outcomes.{recover-refused, recover-made}
+use Rattle.decoder.specs.Records.{k_of, l_of, bad_state}
+use Rattle.decoder.specs.Entries.{block_in, recover_refusal, Recovery}
+use Rattle.decoder.proofs.Sound.{Holds, holds, block_small}
+use Rattle.decoder.proofs.Payload.{length_payloads}
+use Rattle.decoder.proofs.Search.{data_in}
+use Rattle.decoder.proofs.Outcomes.{recover_refused, recover_made}
 use Rattle.decoder.proofs.Decoder.get_decoded_data.Statement.{statement}
 use Rattle.decoder.proofs.Decoder.get_decoded_data.Tie as tie
 
@@ -37,29 +37,29 @@ broken MarkerAbsent h = refl
 broken MarkerFirst h = refl
 broken TailNotZero h = refl
 
-good : (c : tie.Else1) → badState c.before.before.before.before.args.self (length c.before.before.before.before.args.elements.now) ≡ false
+good : (c : tie.Else1) → bad_state c.before.before.before.before.args.self (length c.before.before.before.before.args.elements.now) ≡ false
 good c = not-true _ (sym c.before.holds.ensures ∙ not-false c.before.holds.result c.if1.false)
 
 returns : tie.Need-returns
-unfolding recoverRefusal
+unfolding recover_refusal
 returns c =
-    recover-refused
-    (rw (not-false (badState _ _) (sym c.before.holds.ensures ∙ not-true c.before.holds.result c.if1.true))) (λ h. omega arith)
+    recover_refused
+    (rw (not-false (bad_state _ _) (sym c.before.holds.ensures ∙ not-true c.before.holds.result c.if1.true))) (λ h. omega arith)
 
 returns-2 : tie.Need-returns-2
-unfolding recoverRefusal
-returns-2 c = recover-refused (rw (good c.before.before, ne_eqb _ _ c.if2.true)) (λ h. omega arith)
+unfolding recover_refusal
+returns-2 c = recover_refused (rw (good c.before.before, ne_eqb _ _ c.if2.true)) (λ h. omega arith)
 
 mul-if3 : tie.Need-overflow-mul-if3
 mul-if3 c =
     let a = c.before.before.before.before.before.before.before.args in
     let h : Holds a.self (length a.elements.now) = holds _ _ (good c.before.before.before) in
-    omega (arith, block-small (k_of a.self) (LOf a.self) h.numbers.pieces h.numbers.bytes)
+    omega (arith, block_small (k_of a.self) (l_of a.self) h.numbers.pieces h.numbers.bytes)
 
 returns-3 : tie.Need-returns-3
-unfolding recoverRefusal
+unfolding recover_refusal
 returns-3 c =
-    recover-refused
+    recover_refused
     (rw (good c.before.before.before.before, eq-eqb _ _ c.before.before.if2.false, lt-ltb _ _ c.if3.true)) (λ h. omega arith)
 
 -- the tests passed, and what the padding tells
@@ -73,22 +73,22 @@ module _ (c : tie.After-get-final-data-len) where
   abbrev out : List ℕ
   out = c.before.before.before.before.before.before.before.before.before.args.«data».now
 
-  fine : badState d (length elements) ≡ false
+  fine : bad_state d (length elements) ≡ false
   fine = good c.before.before.before.before.before
 
-  passed : recoverRefusal marker d elements (length out) ≡ answer_of c.get-final-data-len.result
-  unfolding recoverRefusal
+  passed : recover_refusal marker d elements (length out) ≡ answer_of c.get-final-data-len.result
+  unfolding recover_refusal
   passed =
       rw (fine, eq-eqb _ _ c.before.before.before.if2.false, le-ltb _ _ c.before.if3.false)
       (ap answer_of (sym c.get-final-data-len.ensures))
 
   module _ (n : ℕ) (e : c.get-final-data-len.result ≡ Data n) where
-    reads-n : reading marker (blockIn d elements) ≡ Data n
+    reads-n : reading marker (block_in d elements) ≡ Data n
     reads-n = sym c.get-final-data-len.ensures ∙ e
 
-    short : n ≤ k_of d * LOf d
-    unfolding blockIn
-    short = omega (arith, data-in marker (blockIn d elements) n reads-n, length-payloads (k_of d) (LOf d) (k_of d) elements (holds _ _ fine).room)
+    short : n ≤ k_of d * l_of d
+    unfolding block_in
+    short = omega (arith, data_in marker (block_in d elements) n reads-n, length_payloads (k_of d) (l_of d) (k_of d) elements (holds _ _ fine).room)
 
     fits : n ≤ length out
     fits = omega (arith, short)
@@ -96,13 +96,13 @@ module _ (c : tie.After-get-final-data-len) where
     part-size : length (take n out) ≡ n
     part-size = length-take-le n out fits
 
-    recovers : (last : List ℕ) → last ≡ take (length (take n out)) (blockIn d elements) → Recovery marker d elements out (recovered.Data n) (last ++ drop n out)
+    recovers : (last : List ℕ) → last ≡ take (length (take n out)) (block_in d elements) → Recovery marker d elements out (recovered.Data n) (last ++ drop n out)
     unfolding answer_of
     recovers last q =
-        recover-made (passed ∙ ap answer_of e) reads-n (ap (λ (l : List ℕ). l ++ drop n out) (q ∙ ap (λ (m : ℕ). take m (blockIn d elements)) part-size))
+        recover_made (passed ∙ ap answer_of e) reads-n (ap (λ (l : List ℕ). l ++ drop n out) (q ∙ ap (λ (m : ℕ). take m (block_in d elements)) part-size))
 
 returns-4 : tie.Need-returns-4
-returns-4 c = recover-refused (passed c.before ∙ broken _ c.match.keys2) (λ h. omega arith)
+returns-4 c = recover_refused (passed c.before ∙ broken _ c.match.keys2) (λ h. omega arith)
 
 returns-5 : tie.Need-returns-5
 returns-5 c =
@@ -115,8 +115,8 @@ copy-data-requires c κs =
     let n = t.n.given.0.0 in
     (fine t.before.before, omega (arith, part-size t.before.before n t.n.given.1, short t.before.before n t.n.given.1))
 
-pub get-decoded-data-spec : {M : Type 1} → statement M
-get-decoded-data-spec =
+pub get_decoded_data_spec : {M : Type 1} → statement M
+get_decoded_data_spec =
     tie.close
     (tie.spec
     (λ c κs. search rules)

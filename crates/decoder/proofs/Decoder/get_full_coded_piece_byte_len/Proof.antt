@@ -27,5 +27,5 @@ returns-2 : tie.Need-returns-2
 unfolding counted
 returns-2 c = rw (good c.before)
 
-pub get-full-coded-piece-byte-len-spec : {M : Type 1} → statement M
-get-full-coded-piece-byte-len-spec = tie.close (tie.spec (λ c κs. search rules) returns add-t5 returns-2)
+pub get_full_coded_piece_byte_len_spec : {M : Type 1} → statement M
+get_full_coded_piece_byte_len_spec = tie.close (tie.spec (λ c κs. search rules) returns add-t5 returns-2)

@@ -15,5 +15,5 @@ returns-2 : tie.Need-returns-2
 unfolding counted
 returns-2 c = rw (sym c.before.is-sound.ensures ∙ not-false _ c.if1.false)
 
-pub get-piece-byte-len-spec : {M : Type 1} → statement M
-get-piece-byte-len-spec = tie.close (tie.spec (λ c κs. search rules) returns returns-2)
+pub get_piece_byte_len_spec : {M : Type 1} → statement M
+get_piece_byte_len_spec = tie.close (tie.spec (λ c κs. search rules) returns returns-2)

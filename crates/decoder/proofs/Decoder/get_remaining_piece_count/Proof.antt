@@ -27,5 +27,5 @@ returns-2 : tie.Need-returns-2
 unfolding counted
 returns-2 c = rw (good c.before)
 
-pub get-remaining-piece-count-spec : {M : Type 1} → statement M
-get-remaining-piece-count-spec = tie.close (tie.spec (λ c κs. search rules) returns sub-t5 returns-2)
+pub get_remaining_piece_count_spec : {M : Type 1} → statement M
+get_remaining_piece_count_spec = tie.close (tie.spec (λ c κs. search rules) returns sub-t5 returns-2)

@@ -15,5 +15,5 @@ returns-2 : tie.Need-returns-2
 unfolding completed
 returns-2 c = rw (sym c.before.before.is-sound.ensures ∙ not-false _ c.before.if1.false)
 
-pub is-already-decoded-spec : {M : Type 1} → statement M
-is-already-decoded-spec = tie.close (tie.spec (λ c κs. search rules) returns returns-2)
+pub is_already_decoded_spec : {M : Type 1} → statement M
+is_already_decoded_spec = tie.close (tie.spec (λ c κs. search rules) returns returns-2)

@@ -5,11 +5,11 @@ use mathlib.Core.Bool.{true}
 use borrow.Author.Rules.{rules}
 use borrow.Author.Tests.{not-true, not-false, le-leb, lt-leb}
 use Rattle.block.specs.Sizes.{sized}
-use Rattle.decoder.specs.Records.{k_of, LOf, sound}
+use Rattle.decoder.specs.Records.{k_of, l_of, sound}
 use Rattle.decoder.proofs.Decoder.is_sound.Statement.{statement}
 use Rattle.decoder.proofs.Decoder.is_sound.Tie as tie
 
-fits : (c : tie.Else1) → sized (k_of c.before.before.args.self) (LOf c.before.before.args.self) ≡ true
+fits : (c : tie.Else1) → sized (k_of c.before.before.args.self) (l_of c.before.before.args.self) ≡ true
 fits c = sym c.before.sizes-fit.ensures ∙ not-false _ c.if1.false
 
 returns : tie.Need-returns
@@ -28,5 +28,5 @@ returns-4 : tie.Need-returns-4
 unfolding sound
 returns-4 c = rw (fits c.before.before, le-leb _ _ c.before.if2.false, le-leb _ _ c.if3.false)
 
-pub is-sound-spec : {M : Type 1} → statement M
-is-sound-spec = tie.close (tie.spec (λ c κs. search rules) returns returns-2 returns-3 returns-4)
+pub is_sound_spec : {M : Type 1} → statement M
+is_sound_spec = tie.close (tie.spec (λ c κs. search rules) returns returns-2 returns-3 returns-4)

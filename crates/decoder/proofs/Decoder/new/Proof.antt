@@ -5,14 +5,14 @@ use mathlib.Core.Bool.{false}
 use native.Mathlib.Omega.{arith}
 use borrow.Author.Rules.{rules}
 use borrow.Author.Tests.{eq-eqb, ne_eqb, lt-ltb, le-ltb}
-use Rattle.decoder.specs.Entries.{newRefusal}
-use Rattle.decoder.proofs.Outcomes.{new-refused, new-made}
+use Rattle.decoder.specs.Entries.{new_refusal}
+use Rattle.decoder.proofs.Outcomes.{new_refused, new_made}
 use mathlib.Core.List.{List, ◌++◌}
 use lib.ListN.{drop, replicate}
 use lib.Seq.{length-take-le}
 use Prim.Native.Nat.{ℕ, ◌+◌, ◌*◌, ◌≤◌}
-use Rattle.block.specs.Sizes.{overLimit}
-use Rattle.decoder.proofs.Sound.{within, matrix-small}
+use Rattle.block.specs.Sizes.{over_limit}
+use Rattle.decoder.proofs.Sound.{within, matrix_small}
 use Rattle.decoder.proofs.Decoder.new.Statement.{statement}
 use Rattle.decoder.proofs.Decoder.new.Tie as tie
 
@@ -24,26 +24,26 @@ module _ (c : tie.Else3) where
   abbrev L : ℕ
   L = c.before.before.before.before.before.args.piece-byte-len
 
-  fits : overLimit k L ≡ false
+  fits : over_limit k L ≡ false
   fits = sym c.before.over-limit.ensures ∙ c.if3.false
 
   small : k * (k + L) ≤ 1114112
   small =
       let w = within k L fits in
-      matrix-small k L w.0 w.1
+      matrix_small k L w.0 w.1
 
 returns : tie.Need-returns
-unfolding newRefusal
-returns c = new-refused (rw (eq-eqb _ _ c.if1.true)) (λ h. omega arith)
+unfolding new_refusal
+returns c = new_refused (rw (eq-eqb _ _ c.if1.true)) (λ h. omega arith)
 
 returns-2 : tie.Need-returns-2
-unfolding newRefusal
-returns-2 c = new-refused (rw (ne_eqb _ _ c.before.if1.false, eq-eqb _ _ c.if2.true)) (λ h. omega arith)
+unfolding new_refusal
+returns-2 c = new_refused (rw (ne_eqb _ _ c.before.if1.false, eq-eqb _ _ c.if2.true)) (λ h. omega arith)
 
 returns-3 : tie.Need-returns-3
-unfolding newRefusal
+unfolding new_refusal
 returns-3 c =
-    new-refused
+    new_refused
     (rw (ne_eqb _ _ c.before.before.before.if1.false, ne_eqb _ _ c.before.before.if2.false, sym c.before.over-limit.ensures ∙ c.if3.true))
     (λ h. omega arith)
 
@@ -54,10 +54,10 @@ mul-size : tie.Need-overflow-mul-size
 mul-size c = omega (arith, small c)
 
 returns-4 : tie.Need-returns-4
-unfolding newRefusal
+unfolding new_refusal
 returns-4 c =
     let e = c.before in
-    new-refused
+    new_refused
     (rw (ne_eqb _ _ e.before.before.before.if1.false, ne_eqb _ _ e.before.before.if2.false, fits e, lt-ltb _ _ c.if4.true))
     (λ h. omega arith)
 
@@ -65,12 +65,12 @@ slice-aggregate-clear : tie.Need-slice-aggregate-clear
 slice-aggregate-clear c = sym (length-take-le _ _ c.before.if4.false)
 
 returns-5 : tie.Need-returns-5
-unfolding newRefusal
+unfolding new_refusal
 returns-5 c =
     let t = c.before.before.before.before in
     let e = t.before in
     let elements : List ℕ = e.before.before.before.before.before.args.elements.now in
-    new-made
+    new_made
     (rw (ne_eqb _ _ e.before.before.before.if1.false, ne_eqb _ _ e.before.before.if2.false, fits e, le-ltb _ _ t.if4.false))
     (ap (λ (l : List ℕ). l ++ drop (k e * (k e + L e)) elements)
     (c.before.before.clear.ensures ∙ ap (λ (n : ℕ). replicate n 0) (length-take-le (k e * (k e + L e)) elements t.if4.false)))

@@ -68,8 +68,8 @@ returns-4 c =
     others (d s) (elements s) (full s) (fine s) (𝓕 s) (row t).before.before.before.before.add_row.ensures (row t).longer.given.1
     t.rref.ensures n.reduced.given.0.0 n.reduced.given.1 s.pre c.if1.false
 
-pub take-piece-spec : {M : Type 1} → statement M
-take-piece-spec =
+pub take_piece_spec : {M : Type 1} → statement M
+take_piece_spec =
     tie.close
     (tie.spec
     (λ c. omega (arith, (fine c.before.before.before).held.numbers))

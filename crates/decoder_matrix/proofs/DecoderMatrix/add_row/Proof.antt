@@ -8,33 +8,33 @@ use native.Mathlib.Omega.{arith}
 use lib.ListN.{length}
 use borrow.Author.Rules.{rules}
 use borrow.Author.Tests.{not-true, not-false}
-use Rattle.linear.proofs.Buffer.{row-end}
-use Rattle.decoder_matrix.specs.Matrix.{sizesFit}
+use Rattle.linear.proofs.Buffer.{row_end}
+use Rattle.decoder_matrix.specs.Matrix.{sizes_fit}
 use Rattle.decoder_matrix.proofs.Sizes.{sized}
 use Rattle.linear.proofs.Flat.{copied}
-use Rattle.decoder_matrix.proofs.Answered.{unfit-row, full-row, other_row, stored_row}
+use Rattle.decoder_matrix.proofs.Answered.{unfit_row, full_row, other_row, stored_row}
 use Rattle.decoder_matrix.proofs.DecoderMatrix.add_row.Statement.{statement}
 use Rattle.decoder_matrix.proofs.DecoderMatrix.add_row.Tie as tie
 
 -- what the test says of the sizes
-fitting : (c : tie.Else1) → sizesFit c.before.before.before.before.args.self (length c.before.before.before.before.args.elements.now) ≡ true
+fitting : (c : tie.Else1) → sizes_fit c.before.before.before.before.args.self (length c.before.before.before.before.args.elements.now) ≡ true
 fitting c = sym c.before.sizes-fit.ensures ∙ not-false _ c.if1.false
 
 -- the new row lies within the buffer
 inside : (c : tie.Else2) → c.before.before.before.before.before.args.self.rows * c.before.before.before.before.before.args.self.cols + c.before.before.before.before.before.args.self.cols ≤ length c.before.before.before.before.before.args.elements.now
 inside c =
     let a = c.before.before.before.before.before.args in
-    omega (arith, (sized a.self (length a.elements.now) (fitting c.before)).room, row-end a.self.cols c.if2.false)
+    omega (arith, (sized a.self (length a.elements.now) (fitting c.before)).room, row_end a.self.cols c.if2.false)
 
 returns : tie.Need-returns
 returns c =
     let a = c.before.before.before.before.args in
-    unfit-row a.self a.elements.now a.row.now (sym c.before.sizes-fit.ensures ∙ not-true _ c.if1.true)
+    unfit_row a.self a.elements.now a.row.now (sym c.before.sizes-fit.ensures ∙ not-true _ c.if1.true)
 
 returns-2 : tie.Need-returns-2
 returns-2 c =
     let a = c.before.before.before.before.before.args in
-    full-row a.self a.elements.now a.row.now (fitting c.before) (omega arith)
+    full_row a.self a.elements.now a.row.now (fitting c.before) (omega arith)
 
 returns-3 : tie.Need-returns-3
 returns-3 c =
@@ -48,8 +48,8 @@ returns-4 c =
     stored_row a.self a.elements.now a.row.now (fitting c.before.before.before.before.before.before) (omega arith) (omega arith)
     (copied a.self.cols (a.self.rows * a.self.cols) a.elements.now a.row.now whole (inside c.before.before.before.before.before) (omega arith) c.before.before.copy.ensures.1)
 
-pub add-row-spec : {M : Type 1} → statement M
-add-row-spec =
+pub add_row_spec : {M : Type 1} → statement M
+add_row_spec =
     tie.close
     (tie.spec
     (λ c κs. search rules)

@@ -7,10 +7,10 @@ use Prim.Native.Nat.{ℕ, ◌+◌, ◌-◌, ◌*◌, ◌≤◌, ◌<◌}
 use native.Mathlib.Omega.{arith}
 use lib.ListN.{length, get_or, set, length-set}
 use lib.Seq.{set-get_or}
-use Rattle.linear.proofs.Buffer.{row-end}
-use Rattle.decoder_matrix.specs.Matrix.{rowsIn}
+use Rattle.linear.proofs.Buffer.{row_end}
+use Rattle.decoder_matrix.specs.Matrix.{rows_in}
 use Rattle.decoder_matrix.proofs.Sizes.{Sized, sized}
-use Rattle.decoder_matrix.proofs.Stored.{Moving, moving-starts, moves, moving-ends}
+use Rattle.decoder_matrix.proofs.Stored.{Moving, moving_starts, moves, moving_ends}
 use Rattle.decoder_matrix.proofs.DecoderMatrix.move_row.Statement.{statement}
 use Rattle.decoder_matrix.proofs.DecoderMatrix.move_row.Tie as tie
 
@@ -29,18 +29,18 @@ module _ (c : tie.Start invariant-loop decreases-loop) where
   ends : (c.args.from * c.args.self.cols + c.args.self.cols ≤ length c.args.elements.now) × (c.args.to * c.args.self.cols + c.args.self.cols ≤ length c.args.elements.now)
   ends =
       let before : c.args.to < c.args.self.rows = omega arith in
-      (omega (arith, s.held, row-end c.args.self.cols c.requires.1.1), omega (arith, s.held, row-end c.args.self.cols before))
+      (omega (arith, s.held, row_end c.args.self.cols c.requires.1.1), omega (arith, s.held, row_end c.args.self.cols before))
 
 returns : tie.Need-returns invariant-loop decreases-loop
 returns c =
     let a = c.before.args in
-    let rows = rowsIn a.self a.elements.now in
+    let rows = rows_in a.self a.elements.now in
     record { rows = sym (set-get_or rows a.to []) ∙ ap (λ (i : ℕ). set rows a.to (get_or rows i [])) (sym c.if1.true); rest = refl }
 
 loop-holds : tie.Need-loop-init invariant-loop decreases-loop
 loop-holds c =
     let a = c.before.args in
-    (refl, λ n h w. moving-starts a.self.cols n a.elements.now w a.from a.to h (omega arith) c.if1.false)
+    (refl, λ n h w. moving_starts a.self.cols n a.elements.now w a.from a.to h (omega arith) c.if1.false)
 
 loop-again : tie.Need-loop-preserved invariant-loop decreases-loop
 loop-again c =
@@ -55,10 +55,10 @@ returns-2 c =
     let a = c.before.before.before.args in
     let l = c.before.loop in
     let w = (s c.before.before.before).held in
-    moving-ends a.self.cols a.self.rows a.elements.now w a.from a.to (omega arith) (omega arith) c.before.before.if1.false (l.invariant.1 a.self.rows (omega arith) w) (omega arith)
+    moving_ends a.self.cols a.self.rows a.elements.now w a.from a.to (omega arith) (omega arith) c.before.before.if1.false (l.invariant.1 a.self.rows (omega arith) w) (omega arith)
 
-pub move-row-spec : {M : Type 1} → statement M
-move-row-spec =
+pub move_row_spec : {M : Type 1} → statement M
+move_row_spec =
     tie.close
     (tie.spec
     invariant-loop

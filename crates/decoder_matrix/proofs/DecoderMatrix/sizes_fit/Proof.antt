@@ -6,7 +6,7 @@ use Rattle.decoder_matrix.specs.Matrix.{k_of}
 use borrow.Author.Rules.{rules}
 use native.Mathlib.Nat.{mul-le-mul}
 use native.Mathlib.Omega.{arith}
-use Rattle.decoder_matrix.proofs.Sizes.{by-division, fitting, too_many, too-narrow}
+use Rattle.decoder_matrix.proofs.Sizes.{by_division, fitting, too_many, too_narrow}
 use Rattle.decoder_matrix.proofs.DecoderMatrix.sizes_fit.Statement.{statement}
 use Rattle.decoder_matrix.proofs.DecoderMatrix.sizes_fit.Tie as tie
 
@@ -14,7 +14,7 @@ returns : tie.Need-returns
 returns c = sym (too_many c.before.args.self c.before.args.n (omega arith))
 
 returns-2 : tie.Need-returns-2
-returns-2 c = sym (too-narrow c.before.before.args.self c.before.before.args.n (omega arith) (omega arith))
+returns-2 c = sym (too_narrow c.before.before.args.self c.before.before.args.n (omega arith) (omega arith))
 
 -- k is at most cols, so that the product is at most 65536 · 65536
 product : tie.Need-overflow-mul-result
@@ -29,7 +29,7 @@ returns-3 c = let a = c.before.before.before.args in sym (fitting a.self a.n (om
 returns-4 : tie.Need-returns-4
 returns-4 c =
     let a = c.before.before.before.args in
-    by-division (k_of a.self) a.self.cols a.n (omega arith) ∙ sym (fitting a.self a.n (omega arith) (omega arith))
+    by_division (k_of a.self) a.self.cols a.n (omega arith) ∙ sym (fitting a.self a.n (omega arith) (omega arith))
 
-pub sizes-fit-spec : {M : Type 1} → statement M
-sizes-fit-spec = tie.close (tie.spec returns returns-2 product returns-3 (λ c. search rules) returns-4)
+pub sizes_fit_spec : {M : Type 1} → statement M
+sizes_fit_spec = tie.close (tie.spec returns returns-2 product returns-3 (λ c. search rules) returns-4)

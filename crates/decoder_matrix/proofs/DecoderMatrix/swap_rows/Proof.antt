@@ -8,11 +8,11 @@ use native.Mathlib.Omega.{arith}
 use lib.ListN.{length, length-set}
 use borrow.Author.Rules.{rules}
 use borrow.Author.Tests.{not-true, not-false}
-use Rattle.linear.proofs.Buffer.{row-end}
-use Rattle.decoder_matrix.specs.Matrix.{sizesFit, rowsIn}
+use Rattle.linear.proofs.Buffer.{row_end}
+use Rattle.decoder_matrix.specs.Matrix.{sizes_fit, rows_in}
 use Rattle.decoder_matrix.proofs.Sizes.{sized}
-use Rattle.decoder_matrix.proofs.Stored.{Swapping, swapping-starts, swaps, swapping-ends, swap-same}
-use Rattle.decoder_matrix.proofs.Answered.{unfit-swap, no-first, no_second, swapped}
+use Rattle.decoder_matrix.proofs.Stored.{Swapping, swapping_starts, swaps, swapping_ends, swap_same}
+use Rattle.decoder_matrix.proofs.Answered.{unfit_swap, no_first, no_second, swapped}
 use Rattle.decoder_matrix.proofs.DecoderMatrix.swap_rows.Statement.{statement}
 use Rattle.decoder_matrix.proofs.DecoderMatrix.swap_rows.Tie as tie
 
@@ -23,7 +23,7 @@ abbrev decreases-loop : tie.decreases-loop
 decreases-loop elements₀ row1-idx row2-idx rows cols a b t₀ elements t = cols - t
 
 -- what the test says of the sizes
-fitting : (c : tie.Else1 invariant-loop decreases-loop) → sizesFit c.before.before.before.args.self (length c.before.before.before.args.elements.now) ≡ true
+fitting : (c : tie.Else1 invariant-loop decreases-loop) → sizes_fit c.before.before.before.args.self (length c.before.before.before.args.elements.now) ≡ true
 fitting c = sym c.before.sizes-fit.ensures ∙ not-false _ c.if1.false
 
 -- both rows lie within the buffer
@@ -32,20 +32,20 @@ module _ (c : tie.Else3 invariant-loop decreases-loop) where
   room = (sized c.before.before.before.before.before.args.self (length c.before.before.before.before.before.args.elements.now) (fitting c.before.before)).held
 
   first : c.before.before.before.before.before.args.row1-idx * c.before.before.before.before.before.args.self.cols + c.before.before.before.before.before.args.self.cols ≤ length c.before.before.before.before.before.args.elements.now
-  first = omega (arith, room, row-end c.before.before.before.before.before.args.self.cols c.before.if2.false)
+  first = omega (arith, room, row_end c.before.before.before.before.before.args.self.cols c.before.if2.false)
 
   second : c.before.before.before.before.before.args.row2-idx * c.before.before.before.before.before.args.self.cols + c.before.before.before.before.before.args.self.cols ≤ length c.before.before.before.before.before.args.elements.now
-  second = omega (arith, room, row-end c.before.before.before.before.before.args.self.cols c.if3.false)
+  second = omega (arith, room, row_end c.before.before.before.before.before.args.self.cols c.if3.false)
 
 returns : tie.Need-returns invariant-loop decreases-loop
 returns c =
     let a = c.before.before.before.args in
-    unfit-swap a.self a.elements.now a.row1-idx a.row2-idx (sym c.before.sizes-fit.ensures ∙ not-true _ c.if1.true)
+    unfit_swap a.self a.elements.now a.row1-idx a.row2-idx (sym c.before.sizes-fit.ensures ∙ not-true _ c.if1.true)
 
 returns-2 : tie.Need-returns-2 invariant-loop decreases-loop
 returns-2 c =
     let a = c.before.before.before.before.args in
-    no-first a.self a.elements.now a.row1-idx a.row2-idx (fitting c.before) (omega arith)
+    no_first a.self a.elements.now a.row1-idx a.row2-idx (fitting c.before) (omega arith)
 
 returns-3 : tie.Need-returns-3 invariant-loop decreases-loop
 returns-3 c =
@@ -55,13 +55,13 @@ returns-3 c =
 returns-4 : tie.Need-returns-4 invariant-loop decreases-loop
 returns-4 c =
     let a = c.before.before.before.before.before.before.args in
-    let same = swap-same (rowsIn a.self a.elements.now) a.row1-idx a.row2-idx c.if4.true in
+    let same = swap_same (rows_in a.self a.elements.now) a.row1-idx a.row2-idx c.if4.true in
     swapped a.self a.elements.now a.row1-idx a.row2-idx (fitting c.before.before.before) (omega arith) (omega arith) (record { rows = sym same; rest = refl })
 
 loop-holds : tie.Need-loop-init invariant-loop decreases-loop
 loop-holds c =
     let a = c.before.before.before.before.before.before.args in
-    swapping-starts a.self.cols a.self.rows a.elements.now (room c.before) a.row1-idx a.row2-idx (omega arith) (omega arith) c.if4.false
+    swapping_starts a.self.cols a.self.rows a.elements.now (room c.before) a.row1-idx a.row2-idx (omega arith) (omega arith) c.if4.false
 
 loop-again : tie.Need-loop-preserved invariant-loop decreases-loop
 loop-again c =
@@ -72,10 +72,10 @@ returns-5 : tie.Need-returns-5 invariant-loop decreases-loop
 returns-5 c =
     let a = c.before.before.before.before.before.before.before.before.args in
     swapped a.self a.elements.now a.row1-idx a.row2-idx (fitting c.before.before.before.before.before) (omega arith) (omega arith)
-    (swapping-ends a.self.cols a.self.rows a.elements.now (room c.before.before.before) a.row1-idx a.row2-idx (omega arith) (omega arith) c.before.before.if4.false c.before.loop.invariant (omega arith))
+    (swapping_ends a.self.cols a.self.rows a.elements.now (room c.before.before.before) a.row1-idx a.row2-idx (omega arith) (omega arith) c.before.before.if4.false c.before.loop.invariant (omega arith))
 
-pub swap-rows-spec : {M : Type 1} → statement M
-swap-rows-spec =
+pub swap_rows_spec : {M : Type 1} → statement M
+swap_rows_spec =
     tie.close
     (tie.spec
     invariant-loop

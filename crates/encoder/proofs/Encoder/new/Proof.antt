@@ -12,27 +12,27 @@ use borrow.Author.Tests.{eq-eqb, ne_eqb, lt-ltb, le-ltb}
 use Rattle.block.specs.Padding.{marker, filled, padded}
 use Rattle.block.proofs.Bounds.{limited, block_within}
 use Rattle.block.proofs.Filling.{round_up}
-use Rattle.encoder.specs.Entries.{paddedRefusal}
-use Rattle.encoder.proofs.Outcomes.{padded-refused, padded-made}
+use Rattle.encoder.specs.Entries.{padded_refusal}
+use Rattle.encoder.proofs.Outcomes.{padded_refused, padded_made}
 use Rattle.encoder.proofs.Encoder.new.Statement.{statement}
 use Rattle.encoder.proofs.Encoder.new.Tie as tie
 
 returns : tie.Need-returns
-unfolding paddedRefusal
-returns c = padded-refused _ (omega arith) (simp (eq-eqb _ _ c.if1.true))
+unfolding padded_refusal
+returns c = padded_refused _ (omega arith) (simp (eq-eqb _ _ c.if1.true))
 
 returns-2 : tie.Need-returns-2
-unfolding paddedRefusal
-returns-2 c = padded-refused _ (omega arith) (simp (ne_eqb _ _ c.before.if1.false, eq-eqb _ _ c.if2.true))
+unfolding padded_refusal
+returns-2 c = padded_refused _ (omega arith) (simp (ne_eqb _ _ c.before.if1.false, eq-eqb _ _ c.if2.true))
 
 add-piece-byte-len : tie.Need-overflow-add-piece-byte-len
 add-piece-byte-len c = omega (arith, div-le_self (length c.before.before.before.before.args.«data».now) c.before.before.before.before.args.piece-count)
 
 returns-3 : tie.Need-returns-3
-unfolding paddedRefusal
+unfolding padded_refusal
 returns-3 c =
     let a = c.before.before.before.before.before.before.args in
-    padded-refused _ (omega arith)
+    padded_refused _ (omega arith)
     (simp (
       ne_eqb _ _ c.before.before.before.if1.false,
       ne_eqb _ _ c.before.before.if2.false,
@@ -44,10 +44,10 @@ mul-size : tie.Need-overflow-mul-size
 mul-size c = omega (arith, block_within _ _ (limited _ _ (sym c.before.over-limit.ensures ∙ c.if3.false)))
 
 returns-4 : tie.Need-returns-4
-unfolding paddedRefusal
+unfolding padded_refusal
 returns-4 c =
     let a = c.before.before.before.before.before.before.before.args in
-    padded-refused _ (omega arith)
+    padded_refused _ (omega arith)
     (simp (
       ne_eqb _ _ c.before.before.before.before.if1.false,
       ne_eqb _ _ c.before.before.before.if2.false,
@@ -69,14 +69,14 @@ pad-requires c κs =
     )
 
 returns-5 : tie.Need-returns-5
-unfolding paddedRefusal padded
+unfolding padded_refusal padded
 returns-5 c =
     let a = c.before.before.before.before.before.before.before.before.before.before.before.args in
     let n = length a.«data».now in
     let k = a.piece-count in
     let up = round_up n k (pos_of_ne-zero c.before.before.before.before.before.before.before.if2.false) in
     let size = length-take-le (k * (n / k + 1)) a.block.now c.before.before.before.before.if4.false in
-    padded-made
+    padded_made
     (simp (
       ne_eqb _ _ c.before.before.before.before.before.before.before.before.if1.false,
       ne_eqb _ _ c.before.before.before.before.before.before.before.if2.false,

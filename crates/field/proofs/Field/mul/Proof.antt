@@ -11,5 +11,5 @@ use Rattle.field.proofs.Field.mul.Tie as tie
 returns : tie.Need-returns
 returns c = c.mul-const.ensures ∙ ap (λ (f : Field). (field_of f).mul c.before.args.a c.before.args.b) (named c.before.args.self)
 
-pub mul-spec : {M : Type 1} → statement M
-mul-spec = tie.close (tie.spec (λ c κs. search rules) returns)
+pub mul_spec : {M : Type 1} → statement M
+mul_spec = tie.close (tie.spec (λ c κs. search rules) returns)

@@ -4,18 +4,18 @@ use mathlib.Core.Path.{◌≡◌, sym}
 use native.Mathlib.Omega.{arith}
 use lib.Dec.{lit<}
 use borrow.Author.Rules.{rules}
-use Rattle.galois.specs.Multiples.{multiplesOf}
+use Rattle.galois.specs.Multiples.{multiples_of}
 use Rattle.field.specs.FieldOf.{field_of}
 use Rattle.field.proofs.Doubled.{doubled}
 use Rattle.field.proofs.Field.multiples.Statement.{statement}
 use Rattle.field.proofs.Field.multiples.Tie as tie
 
 returns : tie.Need-returns
-unfolding multiplesOf
+unfolding multiples_of
 returns c =
     let f = c.before.before.before.before.before.before.before.args.self in
     let q = c.before.before.before.before.before.before.before.args.q in
-    let m0 : q ≡ (field_of f).mul q 1 = sym ((field_of f).mul-one q (omega arith)) in
+    let m0 : q ≡ (field_of f).mul q 1 = sym ((field_of f).mul_one q (omega arith)) in
     let m1 = doubled f q 1 (lit< tt) m0 c.before.before.before.before.before.before.times-x.ensures in
     let m2 = doubled f q 2 (lit< tt) m1 c.before.before.before.before.before.times-x2.ensures in
     let m3 = doubled f q 4 (lit< tt) m2 c.before.before.before.before.times-x3.ensures in
@@ -25,8 +25,8 @@ returns c =
     let m7 = doubled f q 64 (lit< tt) m6 c.times-x7.ensures in
     cc (m0, m1, m2, m3, m4, m5, m6, m7)
 
-pub multiples-spec : {M : Type 1} → statement M
-multiples-spec =
+pub multiples_spec : {M : Type 1} → statement M
+multiples_spec =
     tie.close
     (tie.spec
     (λ c κs. search rules)

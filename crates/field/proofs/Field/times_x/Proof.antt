@@ -11,5 +11,5 @@ use Rattle.field.proofs.Field.times_x.Tie as tie
 returns : tie.Need-returns
 returns c = c.times-x.ensures ∙ ap (λ (f : Field). (field_of f).mul 2 c.before.args.a) (named c.before.args.self)
 
-pub times-x-spec : {M : Type 1} → statement M
-times-x-spec = tie.close (tie.spec (λ c κs. search rules) returns)
+pub times_x_spec : {M : Type 1} → statement M
+times_x_spec = tie.close (tie.spec (λ c κs. search rules) returns)

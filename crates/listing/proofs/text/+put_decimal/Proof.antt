@@ -10,7 +10,7 @@ use borrow.Fn.Kinds.{In}
 use borrow.Fn.PlainCycle.{Measures, is, falls, and}
 use Rattle.listing.specs.Text.{decimal}
 use Rattle.listing.specs.Puts.{Appended}
-use Rattle.listing.proofs.Decimal.{decimal-one, decimal-more, decimal-room}
+use Rattle.listing.proofs.Decimal.{decimal_one, decimal_more, decimal_room}
 use Rattle.listing.proofs.Putting.{nothing_yet, one_more}
 use Rattle.listing.proofs.text.digit.Reads as digit-reads
 use Rattle.listing.proofs.text.put_decimal.Reads as put-decimal
@@ -33,7 +33,7 @@ returns : (t : ℕ) → put-decimal-lts.Need-returns (digit-reads.Asked, digit-r
 returns t c =
     let a = c.before.before.before.args in
     subst (λ (l : List ℕ). Appended l a.line.now a.at (a.at + 1) (set a.line.now a.at c.digit.result))
-    (ap (λ (d : ℕ). d ∷ []) c.digit.ensures ∙ sym (decimal-one a.n (omega arith)))
+    (ap (λ (d : ℕ). d ∷ []) c.digit.ensures ∙ sym (decimal_one a.n (omega arith)))
     (one_more c.digit.result (nothing_yet a.line.now a.at) (omega arith))
 
 returns-2 : (t : ℕ) → put-decimal-lts.Need-returns-2 (digit-reads.Asked, digit-reads.Learnt, put-decimal-below t, put-decimal.Post) (put-decimal-at t) put-decimal.Post
@@ -41,11 +41,11 @@ returns-2 t c =
     let a = c.before.before.before.before.before.before.before.args in
     let p = c.before.before.before.put-decimal in
     subst (λ (l : List ℕ). Appended l a.line.now a.at (p.result + 1) (set p.new.0 p.result c.digit2.result))
-    (ap (λ (d : ℕ). decimal (a.n / 10) ++ (d ∷ [])) c.digit2.ensures ∙ sym (decimal-more a.n (omega arith) (omega arith)))
-    (one_more c.digit2.result p.ensures (omega (arith, decimal-room a.n (omega arith) (omega arith))))
+    (ap (λ (d : ℕ). decimal (a.n / 10) ++ (d ∷ [])) c.digit2.ensures ∙ sym (decimal_more a.n (omega arith) (omega arith)))
+    (one_more c.digit2.result p.ensures (omega (arith, decimal_room a.n (omega arith) (omega arith))))
 
-pub +put-decimal-spec : {M : Type 1} → statement M
-+put-decimal-spec = close μ-put-decimal λ t. put-decimal-lts.spec (digit-reads.Asked, digit-reads.Learnt, put-decimal-below t, put-decimal.Post)
+pub +put_decimal_spec : {M : Type 1} → statement M
++put_decimal_spec = close μ-put-decimal λ t. put-decimal-lts.spec (digit-reads.Asked, digit-reads.Learnt, put-decimal-below t, put-decimal.Post)
     (put-decimal-at t)
     put-decimal.Post
     (λ c. omega arith)
@@ -57,7 +57,7 @@ pub +put-decimal-spec : {M : Type 1} → statement M
     (λ c κs. (omega arith, omega arith))
     (λ c. omega arith)
     (λ c κs. omega arith)
-    (λ c. omega (arith, c.before.before.before.put-decimal.auto.0, decimal-room c.before.before.before.before.before.before.before.args.n (omega arith) (omega arith)))
-    (λ c. omega (arith, c.before.before.before.put-decimal.auto.0, decimal-room c.before.before.before.before.before.before.before.args.n (omega arith) (omega arith)))
+    (λ c. omega (arith, c.before.before.before.put-decimal.auto.0, decimal_room c.before.before.before.before.before.before.before.args.n (omega arith) (omega arith)))
+    (λ c. omega (arith, c.before.before.before.put-decimal.auto.0, decimal_room c.before.before.before.before.before.before.before.args.n (omega arith) (omega arith)))
     (λ c. simp length-set c.before.before.before.put-decimal.auto.0)
     (returns-2 t)

@@ -73,8 +73,8 @@ returns c =
     let a = c.before.before.before.before.args in
     subst (λ (t : List ℕ). Appended (hex t) a.out.now 0 l.at l.out) (take_all l.i a.«data».now (omega arith)) l.invariant.3
 
-pub put-hex-spec : {M : Type 1} → statement M
-put-hex-spec =
+pub put_hex_spec : {M : Type 1} → statement M
+put_hex_spec =
     tie.close
     (tie.spec
     invariant-loop

@@ -10,8 +10,8 @@ use Rattle.stream.specs.Geometries.{body_of}
 use Rattle.stream.specs.Streams.{largest}
 use borrow.Author.Rules.{part_to_end}
 use Rattle.reader.specs.declared.Came.TheVariants.{Piece}
-use Rattle.reader.specs.Reading.{openedBy, on}
-use Rattle.reader.proofs.Reading.{body-cut, body-far, body-whole}
+use Rattle.reader.specs.Reading.{opened_by, on}
+use Rattle.reader.proofs.Reading.{body_cut, body_far, body_whole}
 use Rattle.reader.proofs.Reader.body.Statement.{statement}
 use Rattle.reader.proofs.Reader.body.Tie as tie
 
@@ -25,13 +25,13 @@ near at body h e = omega arith
 returns : tie.Need-returns
 returns c =
     let a = c.before.before.before.before.args in
-    c.next.ensures ∙ sym (body-cut a.g a.self a.input.now (omega (arith, c.before.before.body-len.ensures, c.before.if1.true)))
+    c.next.ensures ∙ sym (body_cut a.g a.self a.input.now (omega (arith, c.before.before.body-len.ensures, c.before.if1.true)))
 
 returns-2 : tie.Need-returns-2
 returns-2 c =
     let a = c.before.before.before.before.args in
     let e = c.before.before.body-len.ensures in
-    sym (body-far a.g a.self a.input.now (omega (arith, e, c.before.if1.false)) (far a.self.at (body_of a.g) c.if2.true (omega (arith, e))))
+    sym (body_far a.g a.self a.input.now (omega (arith, e, c.before.if1.false)) (far a.self.at (body_of a.g) c.if2.true (omega (arith, e))))
 
 returns-3 : tie.Need-returns-3
 returns-3 c =
@@ -39,12 +39,12 @@ returns-3 c =
     let e = c.before.before.before.before.before.body-len.ensures in
     let part = part_to_end a.input.now c.before.before.before.before.before.body-len.result ∙ ap (λ (n : ℕ). drop n a.input.now) e in
     c.next2.ensures
-    ∙ ap (on (Pieces a.g) _ (Piece a.g)) (c.before.opened.ensures ∙ ap (openedBy (Pieces a.g)) part)
-    ∙ ap (λ (n : ℕ). on (Pieces a.g) n (Piece a.g) (openedBy (Pieces a.g) (drop (body_of a.g) a.input.now))) (omega (arith, e))
-    ∙ sym (body-whole a.g a.self a.input.now (omega (arith, e, c.before.before.before.before.if1.false)) (near a.self.at (body_of a.g) c.before.before.before.if2.false (omega (arith, e))))
+    ∙ ap (on (Pieces a.g) _ (Piece a.g)) (c.before.opened.ensures ∙ ap (opened_by (Pieces a.g)) part)
+    ∙ ap (λ (n : ℕ). on (Pieces a.g) n (Piece a.g) (opened_by (Pieces a.g) (drop (body_of a.g) a.input.now))) (omega (arith, e))
+    ∙ sym (body_whole a.g a.self a.input.now (omega (arith, e, c.before.before.before.before.if1.false)) (near a.self.at (body_of a.g) c.before.before.before.if2.false (omega (arith, e))))
 
-pub body-spec : {M : Type 1} → statement M
-body-spec =
+pub body_spec : {M : Type 1} → statement M
+body_spec =
     tie.close
     (tie.spec
     (λ c κs. search rules)

@@ -6,7 +6,7 @@ use native.Mathlib.Omega.{arith}
 use Rattle.reader.specs.declared.Place.{Place}
 use Rattle.reader.specs.declared.Came.TheVariants.{Start}
 use Rattle.reader.specs.Reading.{on, brings}
-use Rattle.reader.proofs.Reading.{too_many, place-decides}
+use Rattle.reader.proofs.Reading.{too_many, place_decides}
 use Rattle.reader.proofs.Reader.read.Statement.{statement}
 use Rattle.reader.proofs.Reader.read.Tie as tie
 
@@ -21,7 +21,7 @@ returns-2 c =
     let a = c.before.before.before.before.before.before.before.args in
     c.next.ensures
     ∙ ap (on a.self.seen a.self.at Start) c.before.opened.ensures
-    ∙ sym (place-decides a.self a.input.now (omega (arith, c.before.before.before.before.before.wants.ensures, c.before.before.before.before.if1.false))
+    ∙ sym (place_decides a.self a.input.now (omega (arith, c.before.before.before.before.before.wants.ensures, c.before.before.before.before.if1.false))
     ∙ ap (λ (p : Place). brings p a.self a.input.now) c.before.before.enum_told.given.1)
 
 returns-3 : tie.Need-returns-3
@@ -29,14 +29,14 @@ unfolding brings
 returns-3 c =
     let a = c.before.before.before.before.before.before.before.args in
     c.body.ensures
-    ∙ sym (place-decides a.self a.input.now (omega (arith, c.before.before.before.before.before.wants.ensures, c.before.before.before.before.if1.false))
+    ∙ sym (place_decides a.self a.input.now (omega (arith, c.before.before.before.before.before.wants.ensures, c.before.before.before.before.if1.false))
     ∙ ap (λ (p : Place). brings p a.self a.input.now) c.before.before.place.given.1)
 
 returns-4 : tie.Need-returns-4
 unfolding brings
 returns-4 c =
     let a = c.before.before.before.before.before.args in
-    sym (place-decides a.self a.input.now (omega (arith, c.before.before.before.wants.ensures, c.before.before.if1.false))
+    sym (place_decides a.self a.input.now (omega (arith, c.before.before.before.wants.ensures, c.before.before.if1.false))
     ∙ ap (λ (p : Place). brings p a.self a.input.now) c.enum-told2.given.1)
 
 pub read_spec : {M : Type 1} → statement M

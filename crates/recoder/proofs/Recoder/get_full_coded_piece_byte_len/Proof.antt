@@ -2,7 +2,7 @@
 -- Assumes nothing.
 use mathlib.Core.Path.{sym, ◌∙◌}
 use borrow.Author.Rules.{rules}
-use Rattle.block.proofs.Chosen.{counts, counts-not}
+use Rattle.block.proofs.Chosen.{counts, counts_not}
 use Rattle.recoder.proofs.Recoder.get_full_coded_piece_byte_len.Statement.{statement}
 use Rattle.recoder.proofs.Recoder.get_full_coded_piece_byte_len.Tie as tie
 
@@ -10,7 +10,7 @@ returns : tie.Need-returns
 returns c = counts _ (sym c.before.is-sound.ensures ∙ c.if1.true)
 
 returns-2 : tie.Need-returns-2
-returns-2 c = counts-not _ (sym c.before.is-sound.ensures ∙ c.if1.false)
+returns-2 c = counts_not _ (sym c.before.is-sound.ensures ∙ c.if1.false)
 
-pub get-full-coded-piece-byte-len-spec : {M : Type 1} → statement M
-get-full-coded-piece-byte-len-spec = tie.close (tie.spec (λ c κs. search rules) returns returns-2)
+pub get_full_coded_piece_byte_len_spec : {M : Type 1} → statement M
+get_full_coded_piece_byte_len_spec = tie.close (tie.spec (λ c κs. search rules) returns returns-2)

@@ -28,5 +28,5 @@ returns-4 c =
       c.sizes-fit.ensures,
     )
 
-pub is-sound-spec : {M : Type 1} → statement M
-is-sound-spec = tie.close (tie.spec returns returns-2 returns-3 (λ c. search rules) (λ c κs. search rules) returns-4)
+pub is_sound_spec : {M : Type 1} → statement M
+is_sound_spec = tie.close (tie.spec returns returns-2 returns-3 (λ c. search rules) (λ c κs. search rules) returns-4)

@@ -4,30 +4,30 @@ use mathlib.Core.Path.{sym, ◌∙◌}
 use native.Mathlib.Omega.{arith}
 use borrow.Author.Rules.{rules}
 use borrow.Author.Tests.{eq-eqb, ne_eqb, le-leb, lt-leb, lt-ltb, le-ltb}
-use Rattle.recoder.specs.Entries.{newRefusal}
-use Rattle.recoder.proofs.Outcomes.{new-refused, new-made}
+use Rattle.recoder.specs.Entries.{new_refusal}
+use Rattle.recoder.proofs.Outcomes.{new_refused, new_made}
 use Rattle.recoder.proofs.Recoder.new.Statement.{statement}
 use Rattle.recoder.proofs.Recoder.new.Tie as tie
 
 returns : tie.Need-returns
-unfolding newRefusal
-returns c = new-refused _ (omega arith) (simp (eq-eqb _ _ c.if1.true))
+unfolding new_refusal
+returns c = new_refused _ (omega arith) (simp (eq-eqb _ _ c.if1.true))
 
 returns-2 : tie.Need-returns-2
-unfolding newRefusal
-returns-2 c = new-refused _ (omega arith) (simp (ne_eqb _ _ c.before.if1.false, eq-eqb _ _ c.if2.true))
+unfolding new_refusal
+returns-2 c = new_refused _ (omega arith) (simp (ne_eqb _ _ c.before.if1.false, eq-eqb _ _ c.if2.true))
 
 returns-3 : tie.Need-returns-3
-unfolding newRefusal
-returns-3 c = new-refused _ (omega arith) (simp (
+unfolding new_refusal
+returns-3 c = new_refused _ (omega arith) (simp (
   ne_eqb _ _ c.before.before.if1.false,
   ne_eqb _ _ c.before.if2.false,
   eq-eqb _ _ c.if3.true,
 ))
 
 returns-4 : tie.Need-returns-4
-unfolding newRefusal
-returns-4 c = new-refused _ (omega arith) (simp (
+unfolding new_refusal
+returns-4 c = new_refused _ (omega arith) (simp (
   ne_eqb _ _ c.before.before.before.if1.false,
   ne_eqb _ _ c.before.before.if2.false,
   ne_eqb _ _ c.before.if3.false,
@@ -35,8 +35,8 @@ returns-4 c = new-refused _ (omega arith) (simp (
 ))
 
 returns-5 : tie.Need-returns-5
-unfolding newRefusal
-returns-5 c = new-refused _ (omega arith) (simp (
+unfolding new_refusal
+returns-5 c = new_refused _ (omega arith) (simp (
   ne_eqb _ _ c.before.before.before.before.if1.false,
   ne_eqb _ _ c.before.before.before.if2.false,
   ne_eqb _ _ c.before.before.if3.false,
@@ -45,8 +45,8 @@ returns-5 c = new-refused _ (omega arith) (simp (
 ))
 
 returns-6 : tie.Need-returns-6
-unfolding newRefusal
-returns-6 c = new-refused _ (omega arith) (simp (
+unfolding new_refusal
+returns-6 c = new_refused _ (omega arith) (simp (
   ne_eqb _ _ c.before.before.before.before.before.if1.false,
   ne_eqb _ _ c.before.before.before.before.if2.false,
   ne_eqb _ _ c.before.before.before.if3.false,
@@ -56,8 +56,8 @@ returns-6 c = new-refused _ (omega arith) (simp (
 ))
 
 returns-7 : tie.Need-returns-7
-unfolding newRefusal
-returns-7 c = new-refused _ (omega arith) (simp (
+unfolding new_refusal
+returns-7 c = new_refused _ (omega arith) (simp (
   ne_eqb _ _ c.before.before.before.before.before.before.before.if1.false,
   ne_eqb _ _ c.before.before.before.before.before.before.if2.false,
   ne_eqb _ _ c.before.before.before.before.before.if3.false,
@@ -68,8 +68,8 @@ returns-7 c = new-refused _ (omega arith) (simp (
 ))
 
 returns-8 : tie.Need-returns-8
-unfolding newRefusal
-returns-8 c = new-made (simp (
+unfolding new_refusal
+returns-8 c = new_made (simp (
   ne_eqb _ _ c.before.before.before.before.before.before.before.if1.false,
   ne_eqb _ _ c.before.before.before.before.before.before.if2.false,
   ne_eqb _ _ c.before.before.before.before.before.if3.false,

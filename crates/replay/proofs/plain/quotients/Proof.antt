@@ -11,8 +11,8 @@ invariant-loop x y₀ y = y ≤ 256
 abbrev decreases-loop : tie.decreases-loop
 decreases-loop x y₀ y = 256 - y
 
-pub quotients-spec : {M : Type 1} → statement M
-quotients-spec =
+pub quotients_spec : {M : Type 1} → statement M
+quotients_spec =
     tie.close
     (tie.spec
     invariant-loop

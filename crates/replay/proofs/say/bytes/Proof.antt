@@ -15,8 +15,8 @@ invariant-loop part text₀ used₀ i₀ i-end text used i = (i ≤ length part)
 abbrev decreases-loop : tie.decreases-loop
 decreases-loop part text₀ used₀ i₀ i-end text used i = length part - i
 
-pub bytes-spec : {M : Type 1} → statement M
-bytes-spec =
+pub bytes_spec : {M : Type 1} → statement M
+bytes_spec =
     tie.close
     (tie.spec
     invariant-loop

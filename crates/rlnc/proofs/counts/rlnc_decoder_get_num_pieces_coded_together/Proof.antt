@@ -4,17 +4,17 @@ use mathlib.Core.Path.{ap, ◌∙◌}
 use Rattle.block.specs.Counts.{counted}
 use Rattle.decoder.specs.declared.Decoder.{Decoder}
 use Rattle.decoder.specs.Records.{k_of, sound}
-use Rattle.rlnc.proofs.Given.{count-given}
+use Rattle.rlnc.proofs.Given.{count_given}
 use borrow.Author.Rules.{rules}
 use Rattle.rlnc.proofs.counts.rlnc_decoder_get_num_pieces_coded_together.Statement.{statement}
 use Rattle.rlnc.proofs.counts.rlnc_decoder_get_num_pieces_coded_together.Tie as tie
 
 returns : tie.Need-returns
 returns c =
-    count-given (c.before.before.get-num-pieces-coded-together.ensures ∙ ap (λ (d : Decoder). counted (sound d) (k_of d)) c.before.before.before.decoder-of.ensures) c.give-count.ensures
+    count_given (c.before.before.get-num-pieces-coded-together.ensures ∙ ap (λ (d : Decoder). counted (sound d) (k_of d)) c.before.before.before.decoder-of.ensures) c.give-count.ensures
 
-pub rlnc-decoder-get-num-pieces-coded-together-spec : {M : Type 1} → statement M
-rlnc-decoder-get-num-pieces-coded-together-spec =
+pub rlnc_decoder_get_num_pieces_coded_together_spec : {M : Type 1} → statement M
+rlnc_decoder_get_num_pieces_coded_together_spec =
     tie.close
     (tie.spec
     (λ c κs. search rules)

@@ -3,18 +3,18 @@
 use mathlib.Core.Path.{ap, ◌∙◌}
 use Rattle.block.specs.Counts.{counted}
 use Rattle.decoder.specs.declared.Decoder.{Decoder}
-use Rattle.decoder.specs.Records.{LOf, sound}
-use Rattle.rlnc.proofs.Given.{count-given}
+use Rattle.decoder.specs.Records.{l_of, sound}
+use Rattle.rlnc.proofs.Given.{count_given}
 use borrow.Author.Rules.{rules}
 use Rattle.rlnc.proofs.counts.rlnc_decoder_get_piece_byte_len.Statement.{statement}
 use Rattle.rlnc.proofs.counts.rlnc_decoder_get_piece_byte_len.Tie as tie
 
 returns : tie.Need-returns
 returns c =
-    count-given (c.before.before.get-piece-byte-len.ensures ∙ ap (λ (d : Decoder). counted (sound d) (LOf d)) c.before.before.before.decoder-of.ensures) c.give-count.ensures
+    count_given (c.before.before.get-piece-byte-len.ensures ∙ ap (λ (d : Decoder). counted (sound d) (l_of d)) c.before.before.before.decoder-of.ensures) c.give-count.ensures
 
-pub rlnc-decoder-get-piece-byte-len-spec : {M : Type 1} → statement M
-rlnc-decoder-get-piece-byte-len-spec =
+pub rlnc_decoder_get_piece_byte_len_spec : {M : Type 1} → statement M
+rlnc_decoder_get_piece_byte_len_spec =
     tie.close
     (tie.spec
     (λ c κs. search rules)

@@ -3,18 +3,18 @@
 use mathlib.Core.Path.{ap, ◌∙◌}
 use Rattle.block.specs.Counts.{counted}
 use Rattle.decoder.specs.declared.Decoder.{Decoder}
-use Rattle.decoder.specs.Records.{rowsIn, sound}
-use Rattle.rlnc.proofs.Given.{count-given}
+use Rattle.decoder.specs.Records.{rows_in, sound}
+use Rattle.rlnc.proofs.Given.{count_given}
 use borrow.Author.Rules.{rules}
 use Rattle.rlnc.proofs.counts.rlnc_decoder_get_useful_piece_count.Statement.{statement}
 use Rattle.rlnc.proofs.counts.rlnc_decoder_get_useful_piece_count.Tie as tie
 
 returns : tie.Need-returns
 returns c =
-    count-given (c.before.before.get-useful-piece-count.ensures ∙ ap (λ (d : Decoder). counted (sound d) (rowsIn d)) c.before.before.before.decoder-of.ensures) c.give-count.ensures
+    count_given (c.before.before.get-useful-piece-count.ensures ∙ ap (λ (d : Decoder). counted (sound d) (rows_in d)) c.before.before.before.decoder-of.ensures) c.give-count.ensures
 
-pub rlnc-decoder-get-useful-piece-count-spec : {M : Type 1} → statement M
-rlnc-decoder-get-useful-piece-count-spec =
+pub rlnc_decoder_get_useful_piece_count_spec : {M : Type 1} → statement M
+rlnc_decoder_get_useful_piece_count_spec =
     tie.close
     (tie.spec
     (λ c κs. search rules)

@@ -2,28 +2,28 @@
 -- Assumes nothing.
 use borrow.Author.Rules.{rules}
 use Rattle.decoder.specs.declared.Taken.TheVariants.{Useful, NotUseful, Refused}
-use Rattle.decoder.specs.Answers.{takenNumber, kept}
-use Rattle.rlnc.proofs.Records.{piece-taken}
+use Rattle.decoder.specs.Answers.{taken_number, kept}
+use Rattle.rlnc.proofs.Records.{piece_taken}
 use Rattle.rlnc.proofs.decode.rlnc_decoder_decode.Statement.{statement}
 use Rattle.rlnc.proofs.decode.rlnc_decoder_decode.Tie as tie
 
 returns : tie.Need-returns
-unfolding takenNumber kept
+unfolding taken_number kept
 returns c =
-    piece-taken c.before.before.before.before.before.before.decode.ensures (Useful _) c.before.before.taken.given.1 c.number.ensures
+    piece_taken c.before.before.before.before.before.before.decode.ensures (Useful _) c.before.before.taken.given.1 c.number.ensures
 
 returns-2 : tie.Need-returns-2
-unfolding takenNumber kept
+unfolding taken_number kept
 returns-2 c =
-    piece-taken c.before.before.before.before.before.before.decode.ensures (NotUseful _) c.before.before.taken2.given.1 c.number2.ensures
+    piece_taken c.before.before.before.before.before.before.decode.ensures (NotUseful _) c.before.before.taken2.given.1 c.number2.ensures
 
 returns-3 : tie.Need-returns-3
-unfolding takenNumber kept
+unfolding taken_number kept
 returns-3 c =
-    piece-taken c.before.before.before.before.before.before.decode.ensures (Refused _) c.before.before.taken3.given.1 c.number3.ensures
+    piece_taken c.before.before.before.before.before.before.decode.ensures (Refused _) c.before.before.taken3.given.1 c.number3.ensures
 
-pub rlnc-decoder-decode-spec : {M : Type 1} → statement M
-rlnc-decoder-decode-spec =
+pub rlnc_decoder_decode_spec : {M : Type 1} → statement M
+rlnc_decoder_decode_spec =
     tie.close
     (tie.spec
     (λ c κs. search rules)

@@ -2,23 +2,23 @@
 -- Assumes nothing.
 use borrow.Author.Rules.{rules}
 use Rattle.decoder.specs.declared.Made.TheVariants.{Of, Refused}
-use Rattle.decoder.specs.Answers.{madeNumber}
-use Rattle.rlnc.proofs.Records.{rowsOr, takenOr, decoder-made}
+use Rattle.decoder.specs.Answers.{made_number}
+use Rattle.rlnc.proofs.Records.{rows_or, taken_or, decoder_made}
 use Rattle.rlnc.proofs.decode.rlnc_decoder_new.Statement.{statement}
 use Rattle.rlnc.proofs.decode.rlnc_decoder_new.Tie as tie
 
 returns : tie.Need-returns
-unfolding madeNumber rowsOr takenOr
+unfolding made_number rows_or taken_or
 returns c =
-    decoder-made c.before.before.before.before.before.before.new.ensures (Of _) c.before.before.made.given.1 c.number.ensures
+    decoder_made c.before.before.before.before.before.before.new.ensures (Of _) c.before.before.made.given.1 c.number.ensures
 
 returns-2 : tie.Need-returns-2
-unfolding madeNumber rowsOr takenOr
+unfolding made_number rows_or taken_or
 returns-2 c =
-    decoder-made c.before.before.before.before.before.before.new.ensures (Refused _) c.before.before.made2.given.1 c.number2.ensures
+    decoder_made c.before.before.before.before.before.before.new.ensures (Refused _) c.before.before.made2.given.1 c.number2.ensures
 
-pub rlnc-decoder-new-spec : {M : Type 1} → statement M
-rlnc-decoder-new-spec =
+pub rlnc_decoder_new_spec : {M : Type 1} → statement M
+rlnc_decoder_new_spec =
     tie.close
     (tie.spec
     (λ c κs. search rules)

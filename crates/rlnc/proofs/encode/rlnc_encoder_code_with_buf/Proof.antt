@@ -10,8 +10,8 @@ returns c =
     let e = c.before.before.before.code-with-buf.ensures in
     numbered e.result c.number.ensures e
 
-pub rlnc-encoder-code-with-buf-spec : {M : Type 1} → statement M
-rlnc-encoder-code-with-buf-spec =
+pub rlnc_encoder_code_with_buf_spec : {M : Type 1} → statement M
+rlnc_encoder_code_with_buf_spec =
     tie.close
     (tie.spec
     (λ c κs. search rules)

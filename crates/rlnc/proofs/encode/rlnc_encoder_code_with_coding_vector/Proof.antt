@@ -10,8 +10,8 @@ returns c =
     let e = c.before.before.before.code-with-coding-vector.ensures in
     numbered e.result c.number.ensures e
 
-pub rlnc-encoder-code-with-coding-vector-spec : {M : Type 1} → statement M
-rlnc-encoder-code-with-coding-vector-spec =
+pub rlnc_encoder_code_with_coding_vector_spec : {M : Type 1} → statement M
+rlnc_encoder_code_with_coding_vector_spec =
     tie.close
     (tie.spec
     (λ c κs. search rules)

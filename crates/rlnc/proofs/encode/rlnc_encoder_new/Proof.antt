@@ -2,23 +2,23 @@
 -- Assumes nothing.
 use borrow.Author.Rules.{rules}
 use Rattle.encoder.specs.declared.Made.TheVariants.{Of, Refused}
-use Rattle.encoder.specs.Made.{madeNumber}
-use Rattle.rlnc.proofs.Records.{lengthAfter, encoder-made}
+use Rattle.encoder.specs.Made.{made_number}
+use Rattle.rlnc.proofs.Records.{length_after, encoder_made}
 use Rattle.rlnc.proofs.encode.rlnc_encoder_new.Statement.{statement}
 use Rattle.rlnc.proofs.encode.rlnc_encoder_new.Tie as tie
 
 returns : tie.Need-returns
-unfolding madeNumber lengthAfter
+unfolding made_number length_after
 returns c =
-    encoder-made c.before.before.before.before.before.before.new.ensures (Of _) c.before.before.made.given.1 c.number.ensures
+    encoder_made c.before.before.before.before.before.before.new.ensures (Of _) c.before.before.made.given.1 c.number.ensures
 
 returns-2 : tie.Need-returns-2
-unfolding madeNumber lengthAfter
+unfolding made_number length_after
 returns-2 c =
-    encoder-made c.before.before.before.before.before.before.new.ensures (Refused _) c.before.before.made2.given.1 c.number2.ensures
+    encoder_made c.before.before.before.before.before.before.new.ensures (Refused _) c.before.before.made2.given.1 c.number2.ensures
 
-pub rlnc-encoder-new-spec : {M : Type 1} → statement M
-rlnc-encoder-new-spec =
+pub rlnc_encoder_new_spec : {M : Type 1} → statement M
+rlnc_encoder_new_spec =
     tie.close
     (tie.spec
     (λ c κs. search rules)

@@ -10,8 +10,8 @@ returns c =
     let e = c.before.before.before.combine.ensures in
     numbered e.answer c.number.ensures e
 
-pub rlnc-combine-spec : {M : Type 1} → statement M
-rlnc-combine-spec =
+pub rlnc_combine_spec : {M : Type 1} → statement M
+rlnc_combine_spec =
     tie.close
     (tie.spec
     (λ c κs. search rules)

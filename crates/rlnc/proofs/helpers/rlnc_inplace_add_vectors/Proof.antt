@@ -10,5 +10,5 @@ returns c =
     let e = c.before.before.before.inplace-add-vectors.ensures in
     numbered e.answer c.number.ensures e
 
-pub rlnc-inplace-add-vectors-spec : {M : Type 1} → statement M
-rlnc-inplace-add-vectors-spec = tie.close (tie.spec (λ c κs. search rules) (λ c κs. search rules) (λ c. search rules) returns)
+pub rlnc_inplace_add_vectors_spec : {M : Type 1} → statement M
+rlnc_inplace_add_vectors_spec = tie.close (tie.spec (λ c κs. search rules) (λ c κs. search rules) (λ c. search rules) returns)

@@ -10,5 +10,5 @@ returns c =
     let e = c.before.before.before.mul-part-by-scalar-then-add-into-part.ensures in
     numbered e.answer c.number.ensures e
 
-pub rlnc-mul-part-by-scalar-then-add-into-part-spec : {M : Type 1} → statement M
-rlnc-mul-part-by-scalar-then-add-into-part-spec = tie.close (tie.spec (λ c κs. search rules) (λ c κs. search rules) (λ c. search rules) returns)
+pub rlnc_mul_part_by_scalar_then_add_into_part_spec : {M : Type 1} → statement M
+rlnc_mul_part_by_scalar_then_add_into_part_spec = tie.close (tie.spec (λ c κs. search rules) (λ c κs. search rules) (λ c. search rules) returns)

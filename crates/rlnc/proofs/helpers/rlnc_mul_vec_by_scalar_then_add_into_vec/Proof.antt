@@ -10,5 +10,5 @@ returns c =
     let e = c.before.before.before.mul-vec-by-scalar-then-add-into-vec.ensures in
     numbered e.answer c.number.ensures e
 
-pub rlnc-mul-vec-by-scalar-then-add-into-vec-spec : {M : Type 1} → statement M
-rlnc-mul-vec-by-scalar-then-add-into-vec-spec = tie.close (tie.spec (λ c κs. search rules) (λ c κs. search rules) (λ c. search rules) returns)
+pub rlnc_mul_vec_by_scalar_then_add_into_vec_spec : {M : Type 1} → statement M
+rlnc_mul_vec_by_scalar_then_add_into_vec_spec = tie.close (tie.spec (λ c κs. search rules) (λ c κs. search rules) (λ c. search rules) returns)

@@ -2,27 +2,27 @@
 -- Assumes nothing.
 use mathlib.Core.Path.{refl}
 use Rattle.stream.specs.declared.Record.TheVariants.{Piece, End, Refused}
-use Rattle.stream.specs.Records.{recordNumber}
-use Rattle.rlnc.specs.Streams.{kindOr}
-use Rattle.rlnc.proofs.Streams.{record-gave}
+use Rattle.stream.specs.Records.{record_number}
+use Rattle.rlnc.specs.Streams.{kind_or}
+use Rattle.rlnc.proofs.Streams.{record_gave}
 use borrow.Author.Rules.{rules}
 use Rattle.rlnc.proofs.pieces.give_record.Statement.{statement}
 use Rattle.rlnc.proofs.pieces.give_record.Tie as tie
 
 returns : tie.Need-returns
-unfolding recordNumber kindOr
-returns c = record-gave (Piece _) c.before.before.before.found.given.1 c.number.ensures c.before.kind.ensures
+unfolding record_number kind_or
+returns c = record_gave (Piece _) c.before.before.before.found.given.1 c.number.ensures c.before.kind.ensures
 
 returns-2 : tie.Need-returns-2
-unfolding recordNumber kindOr
-returns-2 c = record-gave End c.before.enum_told.given.1 c.number2.ensures refl
+unfolding record_number kind_or
+returns-2 c = record_gave End c.before.enum_told.given.1 c.number2.ensures refl
 
 returns-3 : tie.Need-returns-3
-unfolding recordNumber kindOr
-returns-3 c = record-gave (Refused _) c.before.before.found2.given.1 c.number3.ensures refl
+unfolding record_number kind_or
+returns-3 c = record_gave (Refused _) c.before.before.found2.given.1 c.number3.ensures refl
 
-pub give-record-spec : {M : Type 1} → statement M
-give-record-spec =
+pub give_record_spec : {M : Type 1} → statement M
+give_record_spec =
     tie.close
     (tie.spec
     (λ c. search rules)

@@ -1,20 +1,20 @@
 -- `rlnc::pieces::rlnc_stream_read` meets its contract: 22 where no pieces have the kind of those so far, else it hands on what `stream` reads.
 -- Assumes nothing.
 use mathlib.Core.Path.{sym, ◌∙◌}
-use Rattle.rlnc.proofs.Streams.{read-refused, read-given}
+use Rattle.rlnc.proofs.Streams.{read_refused, read_given}
 use borrow.Author.Rules.{rules}
 use Rattle.rlnc.proofs.pieces.rlnc_stream_read.Statement.{statement}
 use Rattle.rlnc.proofs.pieces.rlnc_stream_read.Tie as tie
 
 returns : tie.Need-returns
-returns c = read-refused _ (sym c.before.before.before.seen_by.ensures ∙ c.before.enum_told.given.1) c.number.ensures
+returns c = read_refused _ (sym c.before.before.before.seen_by.ensures ∙ c.before.enum_told.given.1) c.number.ensures
 
 returns-2 : tie.Need-returns-2
 returns-2 c =
-    read-given _ (sym c.before.before.before.before.before.before.seen_by.ensures ∙ c.before.before.before.before.seen.given.1) c.before.before.read.ensures c.give-record.ensures
+    read_given _ (sym c.before.before.before.before.before.before.seen_by.ensures ∙ c.before.before.before.before.seen.given.1) c.before.before.read.ensures c.give-record.ensures
 
-pub rlnc-stream-read-spec : {M : Type 1} → statement M
-rlnc-stream-read-spec =
+pub rlnc_stream_read_spec : {M : Type 1} → statement M
+rlnc_stream_read_spec =
     tie.close
     (tie.spec
     (λ c κs. search rules)

@@ -10,8 +10,8 @@ returns c =
     let e = c.before.before.before.recode-with-buf.ensures in
     numbered e.result c.number.ensures e
 
-pub rlnc-recoder-recode-with-buf-spec : {M : Type 1} → statement M
-rlnc-recoder-recode-with-buf-spec =
+pub rlnc_recoder_recode_with_buf_spec : {M : Type 1} → statement M
+rlnc_recoder_recode_with_buf_spec =
     tie.close
     (tie.spec
     (λ c κs. search rules)

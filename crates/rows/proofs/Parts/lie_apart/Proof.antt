@@ -33,5 +33,5 @@ returns-3 c =
     record { from_in = omega (arith, ltb-false); to_in = omega (arith, ltb-false); aside = inr (omega arith) })
     (λ a. le-leb x.self.len (x.self.from - x.self.to) (⊎_elim (λ w. omega arith) (λ w. omega arith) a.aside))
 
-pub lie-apart-spec : {M : Type 1} → statement M
-lie-apart-spec = tie.close (tie.spec returns returns-2 (λ c. search rules) returns-3)
+pub lie_apart_spec : {M : Type 1} → statement M
+lie_apart_spec = tie.close (tie.spec returns returns-2 (λ c. search rules) returns-3)

@@ -7,16 +7,16 @@ use native.Mathlib.Nat.{mul-le-mul_right}
 use native.Mathlib.Omega.{arith}
 use lib.ListN.{length, get_or}
 use Rattle.galois.specs.Gf.{◌⊕◌}
-use Rattle.rows.specs.Chosen.{sumChosen}
-use Rattle.rows.proofs.ChosenLaws.{chosen_none, chosen-added}
-use Rattle.rows.proofs.CombineLaws.{chosen-all}
+use Rattle.rows.specs.Chosen.{sum_chosen}
+use Rattle.rows.proofs.ChosenLaws.{chosen_none, chosen_added}
+use Rattle.rows.proofs.CombineLaws.{chosen_all}
 use Rattle.rows.proofs.combining.add_chosen.Statement.{statement}
 use Rattle.rows.proofs.combining.add_chosen.Tie as tie
 
 abbrev invariant-loop : tie.invariant-loop
 invariant-loop rows numbers bit out₀ width starts₀ from₀ out starts from =
     (width ≡ length out₀) × (length out ≡ length out₀) × (length starts ≡ 64) × (from ≤ length numbers)
-    × ((i : ℕ) → i < length out₀ → get_or out i 0 ≡ get_or out₀ i 0 ⊕ sumChosen bit (length out₀) numbers rows i from)
+    × ((i : ℕ) → i < length out₀ → get_or out i 0 ≡ get_or out₀ i 0 ⊕ sum_chosen bit (length out₀) numbers rows i from)
 
 abbrev decreases-loop : tie.decreases-loop
 decreases-loop rows numbers bit out₀ width starts₀ from₀ out starts from = length numbers - from
@@ -58,7 +58,7 @@ loop-again c =
       c.before.before.add-rows.auto.1.1.1.0 ∙ l.invariant.1,
       c.before.before.before.before.before.before.collect.auto.1.1.1.1.1.0 ∙ l.invariant.2,
       (later s).2,
-      λ i h. chosen-added a.bit (length a.out.now) a.numbers.now c.before.before.before.before.before.before.collect.ensures a.rows.now i (get_or a.out.now i 0) (l.invariant.4 i h) (c.before.before.add-rows.ensures i (omega (arith, l.invariant.1))),
+      λ i h. chosen_added a.bit (length a.out.now) a.numbers.now c.before.before.before.before.before.before.collect.ensures a.rows.now i (get_or a.out.now i 0) (l.invariant.4 i h) (c.before.before.add-rows.ensures i (omega (arith, l.invariant.1))),
     )
 
 same_length : tie.Need-same-length invariant-loop decreases-loop
@@ -69,11 +69,11 @@ returns c =
     let a = c.before.before.before.before.before.args in
     let l = c.before.loop in
     let done : l.from ≡ length a.numbers.now = omega arith in
-    λ 𝓕. chosen-all 𝓕 a.bit (length a.out.now) a.numbers.now a.rows.now (λ i. omega (arith, c.before.before.before.before.shared-slice-known.given i)) a.out.now c.before.before.before.before.before.requires.1 refl l.invariant.1
-    (λ i h. l.invariant.4 i h ∙ ap (λ (j : ℕ). get_or a.out.now i 0 ⊕ sumChosen a.bit (length a.out.now) a.numbers.now a.rows.now i j) done)
+    λ 𝓕. chosen_all 𝓕 a.bit (length a.out.now) a.numbers.now a.rows.now (λ i. omega (arith, c.before.before.before.before.shared-slice-known.given i)) a.out.now c.before.before.before.before.before.requires.1 refl l.invariant.1
+    (λ i h. l.invariant.4 i h ∙ ap (λ (j : ℕ). get_or a.out.now i 0 ⊕ sum_chosen a.bit (length a.out.now) a.numbers.now a.rows.now i j) done)
 
-pub add-chosen-spec : {M : Type 1} → statement M
-add-chosen-spec =
+pub add_chosen_spec : {M : Type 1} → statement M
+add_chosen_spec =
     tie.close
     (tie.spec
     invariant-loop

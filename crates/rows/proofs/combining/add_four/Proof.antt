@@ -42,8 +42,8 @@ same_length c = c.before.loop.invariant.0
 returns : tie.Need-returns invariant-loop decreases-loop
 returns c = λ i h. c.before.loop.invariant.2 i (omega arith)
 
-pub add-four-spec : {M : Type 1} → statement M
-add-four-spec =
+pub add_four_spec : {M : Type 1} → statement M
+add_four_spec =
     tie.close
     (tie.spec
     invariant-loop

@@ -8,7 +8,7 @@ use lib.ListN.{length, get_or, take, drop}
 use Rattle.galois.specs.Gf.{◌⊕◌}
 use Rattle.linear.proofs.Buffer.{length_part}
 use Rattle.rows.specs.Chosen.{sum_at}
-use Rattle.rows.proofs.ChosenLaws.{row-none, row_more, four-more, part-added}
+use Rattle.rows.proofs.ChosenLaws.{row_none, row_more, four_more, part_added}
 use Rattle.rows.proofs.combining.add_rows.Statement.{statement}
 use Rattle.rows.proofs.combining.add_rows.Tie as tie
 
@@ -28,7 +28,7 @@ fit c m h =
     subst (λ (w : ℕ). get_or a.starts.now m 0 + w ≤ length a.rows.now) (sym c.loop.invariant.0) (c.before.before.before.before.requires.1 m h)
 
 loop-holds : tie.Need-loop-init invariant-loop decreases-loop
-loop-holds c = (refl, omega arith, λ i h. row-none _ i _ _)
+loop-holds c = (refl, omega arith, λ i h. row_none _ i _ _)
 
 add-four-requires : tie.Need-add-four-requires invariant-loop decreases-loop
 add-four-requires c κs =
@@ -41,7 +41,7 @@ loop-again c =
     let l = c.before.before.before.before.before.before.before.before.before.before.loop in (
       c.before.before.add-four.auto.1.1.1.1.1.0 ∙ l.invariant.0,
       omega arith,
-      λ i h. four-more a.rows.now i a.starts.now (get_or a.out.now i 0) l.k (l.invariant.2 i h) (c.before.before.add-four.ensures i (omega (arith, l.invariant.0))),
+      λ i h. four_more a.rows.now i a.starts.now (get_or a.out.now i 0) l.k (l.invariant.2 i h) (c.before.before.add-four.ensures i (omega (arith, l.invariant.0))),
     )
 
 add-end : tie.Need-overflow-add-end invariant-loop decreases-loop
@@ -71,7 +71,7 @@ loop-again-2 c =
       c.before.before.add_row.auto.0 ∙ l.invariant.0,
       omega arith,
       λ i h. ap (λ (o : List ℕ). get_or o i 0) c.before.before.add_row.ensures
-          ∙ part-added a.rows.now l.out s (s + length l.out - s) i size (omega (arith, fit c.before.before.before.before.before.before.before.before l.k (omega arith))) (omega arith)
+          ∙ part_added a.rows.now l.out s (s + length l.out - s) i size (omega (arith, fit c.before.before.before.before.before.before.before.before l.k (omega arith))) (omega arith)
           ∙ row_more a.rows.now i a.starts.now (get_or a.out.now i 0) l.k refl (l.invariant.2 i h),
     )
 
@@ -85,8 +85,8 @@ returns c =
     let done : l.k ≡ a.n = omega arith in
     λ i h. l.invariant.2 i h ∙ ap (λ (m : ℕ). get_or a.out.now i 0 ⊕ sum_at a.rows.now a.starts.now i m) done
 
-pub add-rows-spec : {M : Type 1} → statement M
-add-rows-spec =
+pub add_rows_spec : {M : Type 1} → statement M
+add_rows_spec =
     tie.close
     (tie.spec
     invariant-loop

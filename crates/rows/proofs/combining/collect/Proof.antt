@@ -6,9 +6,9 @@ use native.Mathlib.Nat.{suc-mul, mul-le-mul_right}
 use native.Mathlib.Numerals.{add-one}
 use native.Mathlib.Omega.{arith}
 use lib.ListN.{length, get_or, set, length-set}
-use Rattle.linear.proofs.Buffer.{row-end}
+use Rattle.linear.proofs.Buffer.{row_end}
 use Rattle.rows.specs.Chosen.{Collected}
-use Rattle.rows.proofs.ChosenLaws.{collects-none, collects-more}
+use Rattle.rows.proofs.ChosenLaws.{collects_none, collects_more}
 use Rattle.rows.proofs.combining.collect.Statement.{statement}
 use Rattle.rows.proofs.combining.collect.Tie as tie
 
@@ -23,17 +23,17 @@ mul-start : tie.Need-overflow-mul-start invariant-loop decreases-loop
 mul-start c = omega (arith, mul-le-mul_right c.args.width c.requires.1)
 
 loop-holds : tie.Need-loop-init invariant-loop decreases-loop
-loop-holds c = (refl, omega arith, refl, collects-none _ _ _ _ _)
+loop-holds c = (refl, omega arith, refl, collects_none _ _ _ _ _)
 
 add_start : tie.Need-overflow-add-start invariant-loop decreases-loop
-add_start c = omega (arith, row-end c.before.before.before.args.width {j = c.before.before.loop.j} {n = c.before.before.before.args.to} c.before.loop-test.true)
+add_start c = omega (arith, row_end c.before.before.before.args.width {j = c.before.before.loop.j} {n = c.before.before.before.args.to} c.before.loop-test.true)
 
 loop-again : tie.Need-loop-preserved invariant-loop decreases-loop
 loop-again c =
     let a = c.before.before.before.args in
     let l = c.before.before.loop in
     let here : Collected a.bit a.width a.numbers.now a.from (l.j + 1) (set l.starts l.n (l.j * a.width)) (l.n + get_or a.numbers.now l.j 0 / 2 ^ a.bit % 2) =
-    collects-more a.bit a.width a.numbers.now l.invariant.3 (omega (arith, l.invariant.3.few)) in (
+    collects_more a.bit a.width a.numbers.now l.invariant.3 (omega (arith, l.invariant.3.few)) in (
       ap (λ (s : ℕ). s + a.width) l.invariant.0 ∙ sym (ap (λ (k : ℕ). k * a.width) (add-one l.j) ∙ suc-mul l.j a.width),
       omega arith,
       length-set l.starts l.n _ ∙ l.invariant.2,
@@ -50,8 +50,8 @@ returns c =
     let done : l.j ≡ a.to = omega arith in
     subst (λ (j : ℕ). Collected a.bit a.width a.numbers.now a.from j l.starts l.n) done l.invariant.3
 
-pub collect-spec : {M : Type 1} → statement M
-collect-spec =
+pub collect_spec : {M : Type 1} → statement M
+collect_spec =
     tie.close
     (tie.spec
     invariant-loop

@@ -31,5 +31,5 @@ returns-2 c =
     let iff = le-div_iff_mul-le {x = a.count} {y = a.n} (pos_of_ne-zero c.if1.false) in
     same_test a.count (a.n / a.width) (a.count * a.width) a.n iff.0 iff.1
 
-pub holds-rows-spec : {M : Type 1} → statement M
-holds-rows-spec = tie.close (tie.spec returns (λ c. search rules) returns-2)
+pub holds_rows_spec : {M : Type 1} → statement M
+holds_rows_spec = tie.close (tie.spec returns (λ c. search rules) returns-2)

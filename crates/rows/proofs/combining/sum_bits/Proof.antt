@@ -10,7 +10,7 @@ use Rattle.galois.specs.FieldLaws.{FieldLaws}
 use Rattle.field.specs.FieldOf.{field_of}
 use Rattle.linear.specs.Buffer.{rows_of}
 use Rattle.linear.specs.Pieces.{combine}
-use Rattle.rows.proofs.CombineLaws.{above, above-none, begun, grown}
+use Rattle.rows.proofs.CombineLaws.{above, above_none, begun, grown}
 use Rattle.rows.proofs.combining.sum_bits.Statement.{statement}
 use Rattle.rows.proofs.combining.sum_bits.Tie as tie
 
@@ -85,10 +85,10 @@ returns c =
     let done : l.bit ≡ 0 = omega arith in
     l.invariant.3 𝓕 s.before.before.before.before.before.before.before.before.mul.ensures
     ∙ (λ i. combine 𝓕 (wide s i) (above (done i) a.numbers.now) (rows_of (wide s i) m a.rows.now))
-    ∙ ap (λ (cs : List ℕ). combine 𝓕 (length a.out.now) cs (rows_of (length a.out.now) m a.rows.now)) (above-none a.numbers.now)
+    ∙ ap (λ (cs : List ℕ). combine 𝓕 (length a.out.now) cs (rows_of (length a.out.now) m a.rows.now)) (above_none a.numbers.now)
 
-pub sum-bits-spec : {M : Type 1} → statement M
-sum-bits-spec =
+pub sum_bits_spec : {M : Type 1} → statement M
+sum_bits_spec =
     tie.close
     (tie.spec
     invariant-loop

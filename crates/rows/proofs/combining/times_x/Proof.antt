@@ -20,5 +20,5 @@ returns c =
     ap (λ (x : ℕ). a.a % 128 * 2 ⊕ x) (w.1 ∙ sym (ap (λ (d : ℕ). d * a.p) o ∙ one-mul a.p)))
     c.before.if1.branch
 
-pub times-x-spec : {M : Type 1} → statement M
-times-x-spec = tie.close (tie.spec (λ c. search rules) returns)
+pub times_x_spec : {M : Type 1} → statement M
+times_x_spec = tie.close (tie.spec (λ c. search rules) returns)

@@ -6,8 +6,8 @@ use Rattle.stream.specs.Geometries.{body_of}
 use Rattle.stream.proofs.Geometry.body_len.Statement.{statement}
 use Rattle.stream.proofs.Geometry.body_len.Tie as tie
 
-pub body-len-spec : {M : Type 1} → statement M
-body-len-spec =
+pub body_len_spec : {M : Type 1} → statement M
+body_len_spec =
     tie.close
     (tie.spec
     (λ c. search rules)

@@ -6,8 +6,8 @@ use Rattle.stream.specs.Geometries.{kind_of}
 use Rattle.stream.proofs.Geometry.kind.Statement.{statement}
 use Rattle.stream.proofs.Geometry.kind.Tie as tie
 
-pub kind-spec : {M : Type 1} → statement M
-kind-spec =
+pub kind_spec : {M : Type 1} → statement M
+kind_spec =
     tie.close
     (tie.spec
     (λ c. search rules)

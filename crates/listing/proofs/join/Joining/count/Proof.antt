@@ -10,7 +10,7 @@ use borrow.Author.Tests.{eq-eqb, ne_eqb}
 use lib.Dec.{eqb}
 use Rattle.linear.specs.Choice.{pick}
 use Rattle.listing.specs.Joining.{line_of}
-use Rattle.listing.proofs.Counting.{counts, counts-always}
+use Rattle.listing.proofs.Counting.{counts, counts_always}
 use Rattle.listing.proofs.join.Joining.count.Statement.{statement}
 use Rattle.listing.proofs.join.Joining.count.Tie as tie
 
@@ -24,7 +24,7 @@ returns : tie.Need-returns
 unfolding line_of
 returns c =
     let a = c.before.before.before.before.before.before.before.before.before.before.args in
-    absurd (counts-always a.self a.d a.answer c.before.before.before.before.piece-line.ensures (omega arith) _ c.enum_told.given.1)
+    absurd (counts_always a.self a.d a.answer c.before.before.before.before.piece-line.ensures (omega arith) _ c.enum_told.given.1)
 
 returns-2 : tie.Need-returns-2
 unfolding line_of

@@ -21,9 +21,9 @@ use Rattle.answers.specs.Number.{number_of}
 use Rattle.answers.specs.declared.Answer.TheVariants.{NotAllPiecesReceivedYet}
 use Rattle.listing.specs.declared.join.Held.{Held}
 use Rattle.listing.specs.declared.join.End.{End}
-use Rattle.listing.specs.Listing.{endAnswer, data_of}
-use Rattle.listing.specs.Steps.{aloneOf, Finished}
-use Rattle.listing.proofs.Ending.{found, not_found, found-data, found_within, end_refused, ended-alone, ended-data}
+use Rattle.listing.specs.Listing.{end_answer, data_of}
+use Rattle.listing.specs.Steps.{alone_of, Finished}
+use Rattle.listing.proofs.Ending.{found, not_found, found_data, found_within, end_refused, ended_alone, ended_data}
 
 returns : tie.Need-returns
 returns c =
@@ -55,13 +55,13 @@ same_length : tie.Need-same-length
 same_length c = search rules
 
 returns-3 : tie.Need-returns-3
-unfolding endAnswer
+unfolding end_answer
 returns-3 c =
     let a = c.before.before.before.before.before.before.before.before.before.before.before.before.args in
     let p = c.before.before.before.end_line in
     subst (λ (q : End). Finished a.self a.elements.now a.«data».now a.out.now q a.«data».now p.new.0) (sym c.alone.ensures)
-    (ended-alone NotAllPiecesReceivedYet 9 (omega arith)
-    (ap (λ (h : Held). endAnswer h a.elements.now (length a.«data».now)) c.before.before.before.before.before.enum_told.given.1) refl p.ensures)
+    (ended_alone NotAllPiecesReceivedYet 9 (omega arith)
+    (ap (λ (h : Held). end_answer h a.elements.now (length a.«data».now)) c.before.before.before.before.before.enum_told.given.1) refl p.ensures)
 
 get-decoded-data-requires : tie.Need-get-decoded-data-requires
 get-decoded-data-requires c κs = search rules
@@ -103,15 +103,15 @@ same-length-3 : tie.Need-same-length-3
 same-length-3 c = search rules
 
 returns-4 : tie.Need-returns-4
-unfolding endAnswer
+unfolding end_answer
 returns-4 c =
     let a = c.before.before.before.before.before.before.before.before.before.before.before.before.before.before.before.before.before.before.before.before.args in
     let p = c.before.before.before.end-line2 in
     let u = not_found c.before.before.before.before.before.before.before.before.before.before.get-decoded-data.ensures _ c.before.before.before.before.before.before.a.given.1 in
     subst (λ (q : End). Finished a.self a.elements.now a.«data».now a.out.now q c.before.before.before.before.before.before.before.before.before.before.get-decoded-data.new.1.1.0 p.new.0) (sym c.alone2.ensures)
-    (subst (λ (k : List ℕ). Finished a.self a.elements.now a.«data».now a.out.now (aloneOf p.result) k p.new.0) (sym u.2)
-    (ended-alone _ u.1.0 (omega arith)
-    (ap (λ (h : Held). endAnswer h a.elements.now (length a.«data».now)) c.before.before.before.before.before.before.before.before.before.before.before.before.before.held.given.1 ∙ u.0) u.1.1 p.ensures))
+    (subst (λ (k : List ℕ). Finished a.self a.elements.now a.«data».now a.out.now (alone_of p.result) k p.new.0) (sym u.2)
+    (ended_alone _ u.1.0 (omega arith)
+    (ap (λ (h : Held). end_answer h a.elements.now (length a.«data».now)) c.before.before.before.before.before.before.before.before.before.before.before.before.before.held.given.1 ∙ u.0) u.1.1 p.ensures))
 
 same-length-4 : tie.Need-same-length-4
 same-length-4 c = search rules
@@ -120,7 +120,7 @@ same-length-5 : tie.Need-same-length-5
 same-length-5 c = search rules
 
 returns-5 : tie.Need-returns-5
-unfolding endAnswer
+unfolding end_answer
 returns-5 c =
     let a = c.before.before.before.before.before.before.before.before.before.before.before.before.before.before.before.before.before.before.before.before.before.args in
     let g = c.before.before.before.before.before.before.before.before.before.before.before.get-decoded-data in
@@ -131,8 +131,8 @@ returns-5 c =
     let w = found_within g.ensures n.0.0 n.1 in
     let same = sym (ap (λ (h : Held). data_of h a.elements.now) told) in
     subst (λ (q : End). Finished a.self a.elements.now a.«data».now a.out.now q g.new.1.1.0 p.new.0) (sym c.with-data.ensures)
-    (ended-data (omega arith) (ap (λ (h : Held). number_of (endAnswer h a.elements.now (length a.«data».now))) told ∙ f.0) (f.1 ∙ ap length same)
-    (found-data g.ensures n.0.0 n.1 ∙ same) (omega (arith, length-take-le n.0.0 g.new.1.1.0 w, g.auto.1.1.0))
+    (ended_data (omega arith) (ap (λ (h : Held). number_of (end_answer h a.elements.now (length a.«data».now))) told ∙ f.0) (f.1 ∙ ap length same)
+    (found_data g.ensures n.0.0 n.1 ∙ same) (omega (arith, length-take-le n.0.0 g.new.1.1.0 w, g.auto.1.1.0))
     (f.2 ∙ ap (λ (l : List ℕ). l ++ drop (length l) a.«data».now) same) p.ensures)
 
 pub finish_spec : {M : Type 1} → statement M
