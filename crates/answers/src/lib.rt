@@ -1,5 +1,7 @@
 // What an entry of the port answers, ported from src/common/errors.rs: one case for each name of the paper's table, the Rust's names
 // where it has them, and the table's number for each.
+#![tactic(auto)]
+
 ghost use Rattle.std.specs.Prelude.{◌≡◌};
 ghost use Rattle.answers.specs.Number.{number_of};
 

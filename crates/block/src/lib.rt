@@ -1,5 +1,7 @@
 // What encoder, recoder and decoder share: the sizes of a block and their limits, the marker (src/full/consts.rs) and, in specs/, the
 // padding rule.
+#![tactic(auto)]
+
 ghost use Rattle.std.specs.Prelude.{◌≡◌};
 ghost use Rattle.block.specs.Sizes.{over_limit, sized};
 

@@ -1,5 +1,7 @@
 // The decoder, ported from src/full/decoder.rs: a record of sizes and counts beside the lent matrix. It takes pieces, says when it is
 // complete, and recovers the data.
+#![tactic(auto)]
+
 ghost use Rattle.std.specs.Prelude.{◌≡◌, false, not, ◌+◌, ◌-◌, ◌*◌, ◌≤◌, min, length, take, drop};
 ghost use Rattle.answers.specs.declared.Answer.TheVariants.{Ok};
 ghost use Rattle.field.specs.FieldOf.{field_of};

@@ -1,5 +1,7 @@
 // The decoder's matrix, ported from src/full/decoder_matrix.rs: the row rules on one lent buffer. `elements` is lent beside the record,
 // and its first rows · cols bytes are the rows held.
+#![tactic(auto)]
+
 ghost use Rattle.std.specs.Prelude.{◌≡◌, true, [], ◌≤◌, ◌<◌, length, get_or, set, replicate};
 ghost use Rattle.field.specs.FieldOf.{field_of};
 ghost use Rattle.linear.specs.Rows.{entry, all_zero, clear_below, forward, backward_at, backward, drop_empty};

@@ -1,5 +1,7 @@
 // The encoder, ported from src/full/encoder.rs: a record of the block's sizes beside the lent block, and pieces coded with the caller's
 // vectors.
+#![tactic(auto)]
+
 ghost use Rattle.std.specs.Prelude.{◌≡◌, not, ◌+◌, ◌<◌, length};
 ghost use Rattle.field.specs.FieldOf.{field_of};
 ghost use Rattle.block.specs.Padding.{marker, filled};

@@ -1,5 +1,7 @@
 // The field named by value: the rows and all that stands on them take it as a parameter. Another field is a crate of tables below
 // this one and a case here.
+#![tactic(auto)]
+
 ghost use Rattle.std.specs.Prelude.{◌≡◌};
 ghost use Rattle.galois.specs.Quotient.{inverse_of, quotient_of};
 ghost use Rattle.galois.specs.Multiples.{multiples_of};

@@ -1,5 +1,7 @@
 // Runs the products that FIPS 197 publishes, and works its S-box out from the inverse of every byte. What it prints is compared with the
 // document's numbers.
+#![tactic(auto)]
+
 use galois::Quotient;
 use gf256::Gf256;
 use libc::STDOUT_FILENO;

@@ -1,5 +1,7 @@
 // The field of FIPS 197, ported from src/common/gf256.rs: addition is exclusive or, and the product goes by a table of logarithms to the
 // base 3 and one of the powers of 3.
+#![tactic(auto)]
+
 ghost use Rattle.std.specs.Prelude.{◌≡◌, ◌<◌, eqb};
 ghost use Rattle.galois.specs.Gf.{◌⊕◌, mul, inv as inverse};
 ghost use Rattle.galois.specs.Tables.{exp_entry, LogEntry};

@@ -1,5 +1,7 @@
 // The machine of `setjoin`: `wants` says how many bytes of the input it is to be fed next, and `feed` takes them and puts the text for them at the
 // front of a lent buffer. How the records are read is the reader's; what is said of them is decided here, to the last byte.
+#![tactic(auto)]
+
 ghost use Rattle.std.specs.Prelude.{◌≡◌, ◌≤◌, length};
 ghost use Rattle.answers.specs.Number.{number_of};
 ghost use Rattle.field.specs.FieldOf.{field_of};

@@ -1,4 +1,6 @@
 // The text that `setjoin` prints: its lines, each put at the front of a lent buffer.
+#![tactic(auto)]
+
 ghost use Rattle.std.specs.Prelude.{◌++◌, ◌+◌, ◌*◌, ◌≤◌, length};
 ghost use Rattle.answers.specs.Number.{number_of};
 ghost use Rattle.listing.specs.Lines.{header_line, piece_line, end_line, stop_line, data_line};

@@ -1,6 +1,8 @@
 // The records of a stream, read as they come: `wants` says how many bytes of the input are to be read next, and `read` what they brought. A kind byte
 // is wanted first, then each body with the kind byte behind it, so that nothing behind the end record is asked for. What is done with a piece is a
 // program's own.
+#![tactic(auto)]
+
 ghost use Rattle.std.specs.Prelude.{◌≡◌};
 ghost use Rattle.reader.specs.Reading.{started, wanted, opened_by, wanting_at, on, body_brings, progress};
 

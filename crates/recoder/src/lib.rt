@@ -1,5 +1,7 @@
 // The recoder, ported from src/full/recoder.rs: a record of the sizes beside the lent pieces, and pieces made of them with the caller's
 // numbers, coefficients included. Bytes after the last whole piece are ignored.
+#![tactic(auto)]
+
 ghost use Rattle.std.specs.Prelude.{◌≡◌, not, ◌-◌, length};
 ghost use Rattle.field.specs.FieldOf.{field_of};
 ghost use Rattle.block.specs.Counts.{counted};

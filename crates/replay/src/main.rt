@@ -1,6 +1,8 @@
 // Reads a script of calls from standard input, makes each call of the port, and prints a line for it: its ordinal, the answer, the counts,
 // and every byte of the buffers that were lent. What it prints is compared with what the Rust answers to the same script (oracle/README.md
 // has the format).
+#![tactic(auto)]
+
 ghost use Rattle.std.specs.Prelude.{◌+◌, ◌≤◌, length};
 
 use decoder::{Decoder, ReceivedPieceCount, UsefulPieceCount};

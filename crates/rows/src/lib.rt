@@ -1,5 +1,7 @@
 // The row helpers, ported from the portable halves of src/common/simd/mod.rs, in the field named: a row scaled, a row added to a row, and
 // a multiple of a row added to a row, or to another part of the buffer that it lies in.
+#![tactic(auto)]
+
 ghost use Rattle.std.specs.Prelude.{◌≡◌, true, ℕ, ◌*◌, ◌%◌, length, replicate};
 ghost use Rattle.galois.specs.FieldLaws.{FieldLaws};
 ghost use Rattle.galois.specs.Multiples.{multiples_of};

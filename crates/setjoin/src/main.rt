@@ -1,5 +1,7 @@
 // Joins the piece stream on standard input: prints its listing, or the data alone. What is read next and what is printed is decided by the machine of
 // `joiner`; here bytes are read, fed and written.
+#![tactic(auto)]
+
 ghost use Rattle.std.specs.Prelude.{◌+◌, ◌≤◌, length};
 ghost use Rattle.listing.specs.Listing.{block_room};
 ghost use Rattle.joiner.specs.Machine.{text_room};

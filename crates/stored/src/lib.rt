@@ -1,5 +1,7 @@
 // The stored form of a decoder: kind, rows, taken and the matrix, for the geometries of the stream. What is saved loads back, and what
 // loads saves back to the same bytes.
+#![tactic(auto)]
+
 ghost use Rattle.std.specs.Prelude.{◌≡◌, false, ◌++◌, ◌-◌, ◌≤◌, length, take, drop, replicate};
 ghost use Rattle.stream.specs.Geometries.{pieces_of, length_of};
 ghost use Rattle.decoder.specs.Records.{k_of, l_of, bad_state};

@@ -1,5 +1,7 @@
 // The piece stream: one byte of kind, then a body whose length the kind fixes. Reading the record at the front of some bytes, and writing
 // one.
+#![tactic(auto)]
+
 ghost use Rattle.std.specs.Prelude.{◌≡◌};
 ghost use Rattle.std.proofs.Math.Option.{some};
 ghost use Rattle.stream.specs.Geometries.{pieces_of, length_of, kind_of, body_of};
