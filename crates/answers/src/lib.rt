@@ -6,7 +6,7 @@ ghost use Rattle.std.specs.Prelude.{◌≡◌};
 ghost use Rattle.answers.specs.Number.{number_of};
 
 // All but Ok and PieceNotUseful are refusals.
-#[derive(Drop)]
+#[derive(Clone, Copy)]
 pub enum Answer {
     Ok,
     CodingVectorLengthMismatch,

@@ -33,7 +33,7 @@ pub fn sizes_fit(piece_count: usize, piece_byte_len: usize) -> bool
 }
 
 // What the padding of a block tells: how many bytes of data it has, or the way in which it breaks the rule.
-#[derive(Drop)]
+#[derive(Clone, Copy)]
 pub enum Padding {
     Data(usize),
     MarkerAbsent,
@@ -42,7 +42,7 @@ pub enum Padding {
 }
 
 // A number that is asked of a record: 22 where the record's numbers are bad.
-#[derive(Drop)]
+#[derive(Clone, Copy)]
 pub enum Count {
     Of(usize),
     Refused(Answer),

@@ -22,14 +22,14 @@ use field::Field;
 const TAKEN_LIMIT: usize = 65535;
 
 // How many rows are held.
-#[derive(Drop)]
+#[derive(Clone, Copy)]
 pub struct UsefulPieceCount(pub usize);
 
 // How many pieces were taken.
-#[derive(Drop)]
+#[derive(Clone, Copy)]
 pub struct ReceivedPieceCount(pub usize);
 
-#[derive(Drop)]
+#[derive(Clone, Copy)]
 pub struct Decoder {
     pub required_piece_count: usize,
     pub piece_byte_len: usize,
@@ -38,28 +38,28 @@ pub struct Decoder {
 }
 
 // A new decoder, or why there is none.
-#[derive(Drop)]
+#[derive(Clone, Copy)]
 pub enum Made {
     Of(Decoder),
     Refused(Answer),
 }
 
 // What became of a piece: it was taken, with one row more or fewer, or with as many rows as before; or it was refused.
-#[derive(Drop)]
+#[derive(Clone, Copy)]
 pub enum Taken {
     Useful(Decoder),
     NotUseful(Decoder),
     Refused(Answer),
 }
 
-#[derive(Drop)]
+#[derive(Clone, Copy)]
 pub enum Complete {
     Of(bool),
     Refused(Answer),
 }
 
 // How many bytes of data were recovered.
-#[derive(Drop)]
+#[derive(Clone, Copy)]
 pub enum Recovered {
     Data(usize),
     Refused(Answer),
@@ -337,7 +337,7 @@ impl Decoder {
 }
 
 // Where a search ended.
-#[derive(Drop)]
+#[derive(Clone, Copy)]
 enum Found {
     At(usize),
     Nothing,

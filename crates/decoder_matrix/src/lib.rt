@@ -14,7 +14,7 @@ use field::Field;
 use galois::Quotient;
 use rows::Parts;
 
-#[derive(Drop)]
+#[derive(Clone, Copy)]
 pub struct DecoderMatrix {
     pub num_pieces_coded_together: usize,
     pub rows: usize,
@@ -22,14 +22,14 @@ pub struct DecoderMatrix {
 }
 
 // The matrix as it is now, or the reason why nothing changed.
-#[derive(Drop)]
+#[derive(Clone, Copy)]
 pub enum Matrix {
     Of(DecoderMatrix),
     Refused(Answer),
 }
 
 // The rows from `from` up to `to`, in which row `pivot` clears its own column, and the inverse of its entry there.
-#[derive(Drop)]
+#[derive(Clone, Copy)]
 struct Clearing {
     pivot: usize,
     inverse: u8,

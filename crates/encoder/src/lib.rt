@@ -13,14 +13,14 @@ use answers::Answer;
 use block::{BOUNDARY_MARKER, Count};
 use field::Field;
 
-#[derive(Drop)]
+#[derive(Clone, Copy)]
 pub struct Encoder {
     pub piece_count: usize,
     pub piece_byte_len: usize,
 }
 
 // A new encoder, or why there is none.
-#[derive(Drop)]
+#[derive(Clone, Copy)]
 pub enum Made {
     Of(Encoder),
     Refused(Answer),

@@ -10,7 +10,7 @@ ghost use Rattle.field.specs.FieldOf.{field_of};
 use galois::Quotient;
 use gf256::Gf256;
 
-#[derive(Drop)]
+#[derive(Clone, Copy)]
 pub enum Field {
     Fips197,
 }

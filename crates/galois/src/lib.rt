@@ -4,7 +4,7 @@
 
 
 // The byte, or nothing: zero has no inverse, and division by it has no answer.
-#[derive(Drop)]
+#[derive(Clone, Copy)]
 pub enum Quotient {
     Byte(u8),
     ByZero,

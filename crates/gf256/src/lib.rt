@@ -31,7 +31,7 @@ fn log_at(a: u8) -> usize
 }
 
 // An element of the field.
-#[derive(Drop)]
+#[derive(Clone, Copy)]
 pub struct Gf256 {
     pub val: u8,
 }

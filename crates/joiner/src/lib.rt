@@ -27,7 +27,7 @@ pub const BLOCK_LEN: usize = 15360;
 pub const TEXT_LEN: usize = 30889;
 
 // How it ended: so many bytes of data stand at the front of the lent block; there are none; or the stream stopped.
-#[derive(Drop)]
+#[derive(Clone, Copy)]
 pub enum Ending {
     NotYet,
     Rebuilt(usize),
@@ -35,7 +35,7 @@ pub enum Ending {
     Stopped,
 }
 
-#[derive(Drop)]
+#[derive(Clone, Copy)]
 pub struct Joiner {
     pub reader: Reader,
     pub joining: Joining,
@@ -44,13 +44,13 @@ pub struct Joiner {
 
 // The machine after a turn, and how many bytes of text there are: of what came first, and behind it of what follows, the last lines among them. Or
 // why nothing was done.
-#[derive(Drop)]
+#[derive(Clone, Copy)]
 pub enum Fed {
     Text(Joiner, usize, usize),
     Refused(Answer),
 }
 
-#[derive(Drop)]
+#[derive(Clone, Copy)]
 struct Closing {
     ending: Ending,
     size: usize,

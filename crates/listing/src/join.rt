@@ -12,14 +12,14 @@ use field::Field;
 use stream::Geometry;
 
 // The decoder, once a piece has come.
-#[derive(Drop)]
+#[derive(Clone, Copy)]
 pub enum Held {
     Nothing,
     Of(Decoder),
 }
 
 // How many pieces have come, and how many of them were answered 8.
-#[derive(Drop)]
+#[derive(Clone, Copy)]
 pub struct Joining {
     pub held: Held,
     pub pieces: u64,
@@ -27,14 +27,14 @@ pub struct Joining {
 }
 
 // The record after a piece and how many bytes its line has, or why nothing was done.
-#[derive(Drop)]
+#[derive(Clone, Copy)]
 pub enum Step {
     Line(Joining, usize),
     Refused(Answer),
 }
 
 // The lines of the end: how many bytes of data and of text there are, or how many of text where there are no data; or why nothing was done.
-#[derive(Drop)]
+#[derive(Clone, Copy)]
 pub enum End {
     Data(usize, usize),
     Alone(usize),

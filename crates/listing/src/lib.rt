@@ -16,7 +16,7 @@ mod text;
 pub const LINE_LEN: usize = 84;
 
 // How many bytes were put, or why there are none.
-#[derive(Drop)]
+#[derive(Clone, Copy)]
 pub enum Put {
     Bytes(usize),
     Refused(Answer),

@@ -15,7 +15,7 @@ pub const INPUT_LEN: usize = 513;
 const BODY_LEN: usize = 512;
 
 // What is wanted next: the first kind byte, the body of a piece with the kind byte behind it, or nothing.
-#[derive(Drop)]
+#[derive(Clone, Copy)]
 pub enum Place {
     Start,
     Body(Geometry),
@@ -24,7 +24,7 @@ pub enum Place {
 
 // The offset is that of the record that was opened last: of the piece whose body is wanted, of the end record, or of the one that stopped the
 // stream.
-#[derive(Drop)]
+#[derive(Clone, Copy)]
 pub struct Reader {
     pub place: Place,
     pub seen: Seen,
@@ -32,7 +32,7 @@ pub struct Reader {
 }
 
 // What the bytes have at their front: no more than the start of the stream, a piece's whole body, or one that was cut short.
-#[derive(Drop)]
+#[derive(Clone, Copy)]
 pub enum Came {
     Start,
     Piece(Geometry),
@@ -40,14 +40,14 @@ pub enum Came {
 }
 
 // What the record behind it is: a piece, whose body is still to come; the end; or one that stops the stream.
-#[derive(Drop)]
+#[derive(Clone, Copy)]
 pub enum Then {
     Body,
     End,
     Stop(Answer),
 }
 
-#[derive(Drop)]
+#[derive(Clone, Copy)]
 pub enum Progress {
     Of(Reader, Came, Then),
     Refused(Answer),

@@ -11,7 +11,7 @@ use answers::Answer;
 use block::Count;
 use field::Field;
 
-#[derive(Drop)]
+#[derive(Clone, Copy)]
 pub struct Recoder {
     pub num_pieces_received: usize,
     pub full_coded_piece_byte_len: usize,
@@ -19,7 +19,7 @@ pub struct Recoder {
 }
 
 // A new recoder, or why there is none.
-#[derive(Drop)]
+#[derive(Clone, Copy)]
 pub enum Made {
     Of(Recoder),
     Refused(Answer),

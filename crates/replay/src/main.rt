@@ -24,7 +24,7 @@ const MATRIX_LEN: usize = 66048;
 
 // What a call says: its kind, five numbers, how much of the kept buffer is lent, how much of it is written anew before, and the lengths
 // of the two slices.
-#[derive(Drop)]
+#[derive(Clone, Copy)]
 struct Call {
     op: u8,
     p: usize,
@@ -39,14 +39,14 @@ struct Call {
 }
 
 // What is kept from call to call, beside the block, the pieces and the matrix.
-#[derive(Drop)]
+#[derive(Clone, Copy)]
 struct Kept {
     encoder: Encoder,
     recoder: Recoder,
     decoder: Decoder,
 }
 
-#[derive(Drop)]
+#[derive(Clone, Copy)]
 enum After {
     Next(Kept),
     Done,

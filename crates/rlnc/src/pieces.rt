@@ -9,14 +9,14 @@ use answers::Answer;
 use stream::{Geometry, Record, Seen};
 
 // The geometry of a kind of piece.
-#[derive(Drop)]
+#[derive(Clone, Copy)]
 enum Listed {
     Of(Geometry),
     Unlisted,
 }
 
 // What has been seen so far.
-#[derive(Drop)]
+#[derive(Clone, Copy)]
 enum Earlier {
     Of(Seen),
     Unlisted,

@@ -60,7 +60,7 @@ pub fn mul_vec_by_scalar_then_add_into_vec(
 }
 
 // Two parts of one buffer, len bytes each.
-#[derive(Drop)]
+#[derive(Clone, Copy)]
 pub struct Parts {
     pub from: usize,
     pub to: usize,

@@ -1,7 +1,7 @@
 // The words of the call. What a user types is the wrapper's to read.
 
 // The listing, the data alone, or words that are not known.
-#[derive(Drop)]
+#[derive(Clone, Copy)]
 pub(crate) enum Call {
     Listing,
     Data,

@@ -16,7 +16,7 @@ use reader::INPUT_LEN;
 mod call;
 
 // What is written: the listing, each line as soon as it is known, or the data alone.
-#[derive(Drop)]
+#[derive(Clone, Copy)]
 enum Mode {
     Listing,
     Lines,
@@ -24,7 +24,7 @@ enum Mode {
 }
 
 // How much of the text buffer is used, or that it could not be written.
-#[derive(Drop)]
+#[derive(Clone, Copy)]
 enum Room {
     From(usize),
     Failed,

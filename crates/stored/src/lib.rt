@@ -13,21 +13,21 @@ use decoder::{Decoder, ReceivedPieceCount, UsefulPieceCount};
 use stream::Geometry;
 
 // How many bytes were written.
-#[derive(Drop)]
+#[derive(Clone, Copy)]
 pub enum Saved {
     Bytes(usize),
     Refused(Answer),
 }
 
 // The decoder beside the matrix that was filled.
-#[derive(Drop)]
+#[derive(Clone, Copy)]
 pub enum Loaded {
     Of(Decoder),
     Refused(Answer),
 }
 
 // The geometry of a stored kind or of a decoder's sizes, where they are listed.
-#[derive(Drop)]
+#[derive(Clone, Copy)]
 enum Listed {
     Of(Geometry),
     Unlisted,

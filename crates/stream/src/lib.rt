@@ -10,7 +10,7 @@ ghost use Rattle.stream.specs.Records.{fits_in, piece_record, kind_record, recor
 use answers::Answer;
 
 // The three sizes that pieces come in: 3 of 2 bytes, 16 of 240, 32 of 480.
-#[derive(Drop)]
+#[derive(Clone, Copy)]
 pub enum Geometry {
     Of3By2,
     Of16By240,
@@ -18,14 +18,14 @@ pub enum Geometry {
 }
 
 // Which geometry the pieces so far have had.
-#[derive(Drop)]
+#[derive(Clone, Copy)]
 pub enum Seen {
     Nothing,
     Pieces(Geometry),
 }
 
 // What stands at the front of some bytes.
-#[derive(Drop)]
+#[derive(Clone, Copy)]
 pub enum Record {
     Piece(Geometry),
     End,
