@@ -10,8 +10,7 @@ use crate::give::give_count;
 use answers::Answer;
 use decoder::Complete;
 
-#[unsafe(no_mangle)]
-pub extern "C" fn rlnc_decoder_get_num_pieces_coded_together(
+pub fn rlnc_decoder_get_num_pieces_coded_together(
     piece_byte_len: usize,
     required_piece_count: usize,
     useful_piece_count: usize,
@@ -29,8 +28,7 @@ pub extern "C" fn rlnc_decoder_get_num_pieces_coded_together(
     give_count(decoder.get_num_pieces_coded_together(), count)
 }
 
-#[unsafe(no_mangle)]
-pub extern "C" fn rlnc_decoder_get_piece_byte_len(
+pub fn rlnc_decoder_get_piece_byte_len(
     piece_byte_len: usize,
     required_piece_count: usize,
     useful_piece_count: usize,
@@ -48,8 +46,7 @@ pub extern "C" fn rlnc_decoder_get_piece_byte_len(
     give_count(decoder.get_piece_byte_len(), count)
 }
 
-#[unsafe(no_mangle)]
-pub extern "C" fn rlnc_decoder_get_full_coded_piece_byte_len(
+pub fn rlnc_decoder_get_full_coded_piece_byte_len(
     piece_byte_len: usize,
     required_piece_count: usize,
     useful_piece_count: usize,
@@ -67,8 +64,7 @@ pub extern "C" fn rlnc_decoder_get_full_coded_piece_byte_len(
     give_count(decoder.get_full_coded_piece_byte_len(), count)
 }
 
-#[unsafe(no_mangle)]
-pub extern "C" fn rlnc_decoder_get_received_piece_count(
+pub fn rlnc_decoder_get_received_piece_count(
     piece_byte_len: usize,
     required_piece_count: usize,
     useful_piece_count: usize,
@@ -86,8 +82,7 @@ pub extern "C" fn rlnc_decoder_get_received_piece_count(
     give_count(decoder.get_received_piece_count(), count)
 }
 
-#[unsafe(no_mangle)]
-pub extern "C" fn rlnc_decoder_get_useful_piece_count(
+pub fn rlnc_decoder_get_useful_piece_count(
     piece_byte_len: usize,
     required_piece_count: usize,
     useful_piece_count: usize,
@@ -105,8 +100,7 @@ pub extern "C" fn rlnc_decoder_get_useful_piece_count(
     give_count(decoder.get_useful_piece_count(), count)
 }
 
-#[unsafe(no_mangle)]
-pub extern "C" fn rlnc_decoder_get_remaining_piece_count(
+pub fn rlnc_decoder_get_remaining_piece_count(
     piece_byte_len: usize,
     required_piece_count: usize,
     useful_piece_count: usize,
@@ -124,8 +118,7 @@ pub extern "C" fn rlnc_decoder_get_remaining_piece_count(
     give_count(decoder.get_remaining_piece_count(), count)
 }
 
-#[unsafe(no_mangle)]
-pub extern "C" fn rlnc_decoder_is_already_decoded(
+pub fn rlnc_decoder_is_already_decoded(
     piece_byte_len: usize,
     required_piece_count: usize,
     useful_piece_count: usize,

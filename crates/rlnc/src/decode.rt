@@ -26,8 +26,7 @@ pub(crate) fn decoder_of(
     }
 }
 
-#[unsafe(no_mangle)]
-pub extern "C" fn rlnc_decoder_new(
+pub fn rlnc_decoder_new(
     piece_byte_len: usize,
     required_piece_count: usize,
     elements: &mut [u8],
@@ -47,8 +46,7 @@ pub extern "C" fn rlnc_decoder_new(
     }
 }
 
-#[unsafe(no_mangle)]
-pub extern "C" fn rlnc_decoder_decode(
+pub fn rlnc_decoder_decode(
     piece_byte_len: usize,
     required_piece_count: usize,
     elements: &mut [u8],
@@ -80,8 +78,7 @@ pub extern "C" fn rlnc_decoder_decode(
     }
 }
 
-#[unsafe(no_mangle)]
-pub extern "C" fn rlnc_decoder_get_decoded_data(
+pub fn rlnc_decoder_get_decoded_data(
     piece_byte_len: usize,
     required_piece_count: usize,
     useful_piece_count: usize,

@@ -14,8 +14,7 @@ use answers::Answer;
 use encoder::{Encoder, Made};
 use field::Field;
 
-#[unsafe(no_mangle)]
-pub extern "C" fn rlnc_encoder_new(
+pub fn rlnc_encoder_new(
     data: &[u8],
     block: &mut [u8],
     piece_count: usize,
@@ -33,8 +32,7 @@ pub extern "C" fn rlnc_encoder_new(
     }
 }
 
-#[unsafe(no_mangle)]
-pub extern "C" fn rlnc_encoder_without_padding(
+pub fn rlnc_encoder_without_padding(
     data: &[u8],
     piece_count: usize,
     piece_byte_len: &mut usize,
@@ -51,8 +49,7 @@ pub extern "C" fn rlnc_encoder_without_padding(
     }
 }
 
-#[unsafe(no_mangle)]
-pub extern "C" fn rlnc_encoder_get_piece_count(
+pub fn rlnc_encoder_get_piece_count(
     piece_count: usize,
     piece_byte_len: usize,
     count: &mut usize,
@@ -66,8 +63,7 @@ pub extern "C" fn rlnc_encoder_get_piece_count(
     give_count(encoder.get_piece_count(), count)
 }
 
-#[unsafe(no_mangle)]
-pub extern "C" fn rlnc_encoder_get_piece_byte_len(
+pub fn rlnc_encoder_get_piece_byte_len(
     piece_count: usize,
     piece_byte_len: usize,
     count: &mut usize,
@@ -81,8 +77,7 @@ pub extern "C" fn rlnc_encoder_get_piece_byte_len(
     give_count(encoder.get_piece_byte_len(), count)
 }
 
-#[unsafe(no_mangle)]
-pub extern "C" fn rlnc_encoder_get_full_coded_piece_byte_len(
+pub fn rlnc_encoder_get_full_coded_piece_byte_len(
     piece_count: usize,
     piece_byte_len: usize,
     count: &mut usize,
@@ -96,8 +91,7 @@ pub extern "C" fn rlnc_encoder_get_full_coded_piece_byte_len(
     give_count(encoder.get_full_coded_piece_byte_len(), count)
 }
 
-#[unsafe(no_mangle)]
-pub extern "C" fn rlnc_encoder_code_with_coding_vector(
+pub fn rlnc_encoder_code_with_coding_vector(
     piece_count: usize,
     piece_byte_len: usize,
     block: &[u8],
@@ -115,8 +109,7 @@ pub extern "C" fn rlnc_encoder_code_with_coding_vector(
         .number()
 }
 
-#[unsafe(no_mangle)]
-pub extern "C" fn rlnc_encoder_code_with_buf(
+pub fn rlnc_encoder_code_with_buf(
     piece_count: usize,
     piece_byte_len: usize,
     block: &[u8],

@@ -14,8 +14,7 @@ use galois::Quotient;
 use rows::Parts;
 
 // The product.
-#[unsafe(no_mangle)]
-pub extern "C" fn rlnc_gf256_mul(a: u8, b: u8) -> u8
+pub fn rlnc_gf256_mul(a: u8, b: u8) -> u8
     ensures { result ≡ fips.mul a b }
 {
     Field::Fips197.mul(a, b)
@@ -35,37 +34,32 @@ fn give_byte(quotient: Quotient, byte: &mut u8) -> bool
 }
 
 // The inverse: zero has none.
-#[unsafe(no_mangle)]
-pub extern "C" fn rlnc_gf256_inv(a: u8, inverse: &mut u8) -> bool
+pub fn rlnc_gf256_inv(a: u8, inverse: &mut u8) -> bool
     ensures { QuotientGiven (inverse_of fips.inv a) inverse.old result inverse.new }
 {
     give_byte(Field::Fips197.inv(a), inverse)
 }
 
 // The quotient: division by zero has none.
-#[unsafe(no_mangle)]
-pub extern "C" fn rlnc_gf256_div(a: u8, b: u8, quotient: &mut u8) -> bool
+pub fn rlnc_gf256_div(a: u8, b: u8, quotient: &mut u8) -> bool
     ensures { QuotientGiven (quotient_of fips.mul fips.inv a b) quotient.old result quotient.new }
 {
     give_byte(Field::Fips197.div(a, b), quotient)
 }
 
-#[unsafe(no_mangle)]
-pub extern "C" fn rlnc_inplace_mul_vec_by_scalar(vec: &mut [u8], scalar: u8)
+pub fn rlnc_inplace_mul_vec_by_scalar(vec: &mut [u8], scalar: u8)
     ensures { Scaled fips scalar vec.old vec.new }
 {
     rows::inplace_mul_vec_by_scalar(Field::Fips197, vec, scalar);
 }
 
-#[unsafe(no_mangle)]
-pub extern "C" fn rlnc_inplace_add_vectors(dst: &mut [u8], src: &[u8]) -> u8
+pub fn rlnc_inplace_add_vectors(dst: &mut [u8], src: &[u8]) -> u8
     ensures { Numbered (λ a. Summed src.now dst.old a dst.new) (lengths_answer src.now dst.old) result }
 {
     rows::inplace_add_vectors(dst, src).number()
 }
 
-#[unsafe(no_mangle)]
-pub extern "C" fn rlnc_mul_vec_by_scalar_then_add_into_vec(
+pub fn rlnc_mul_vec_by_scalar_then_add_into_vec(
     dst: &mut [u8],
     src: &[u8],
     scalar: u8,
@@ -75,8 +69,7 @@ pub extern "C" fn rlnc_mul_vec_by_scalar_then_add_into_vec(
     rows::mul_vec_by_scalar_then_add_into_vec(Field::Fips197, dst, src, scalar).number()
 }
 
-#[unsafe(no_mangle)]
-pub extern "C" fn rlnc_mul_part_by_scalar_then_add_into_part(
+pub fn rlnc_mul_part_by_scalar_then_add_into_part(
     buffer: &mut [u8],
     from: usize,
     to: usize,
@@ -93,8 +86,7 @@ pub extern "C" fn rlnc_mul_part_by_scalar_then_add_into_part(
     ).number()
 }
 
-#[unsafe(no_mangle)]
-pub extern "C" fn rlnc_combine(rows: &[u8], numbers: &[u8], out: &mut [u8]) -> u8
+pub fn rlnc_combine(rows: &[u8], numbers: &[u8], out: &mut [u8]) -> u8
     ensures { Numbered (λ a. Combined fips rows.now numbers.now out.old a out.new) (pick (leb (length numbers.now * length out.old) (length rows.now)) Ok BadState) result }
 {
     rows::combine(Field::Fips197, rows, numbers, out).number()

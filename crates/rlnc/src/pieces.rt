@@ -62,8 +62,7 @@ fn give_record(found: Record, kind: &mut u8) -> u8
     }
 }
 
-#[unsafe(no_mangle)]
-pub extern "C" fn rlnc_stream_read_kind(so_far: u8, next: u8, behind: usize, kind: &mut u8) -> u8
+pub fn rlnc_stream_read_kind(so_far: u8, next: u8, behind: usize, kind: &mut u8) -> u8
     ensures { RecordGiven (read_by (λ s. kind_record s next behind) (earlier_of so_far)) kind.old result kind.new }
 {
     let Earlier::Of(seen) = seen_by(so_far) else {
@@ -72,8 +71,7 @@ pub extern "C" fn rlnc_stream_read_kind(so_far: u8, next: u8, behind: usize, kin
     give_record(stream::read_kind(seen, next, behind), kind)
 }
 
-#[unsafe(no_mangle)]
-pub extern "C" fn rlnc_stream_read(so_far: u8, bytes: &[u8], kind: &mut u8) -> u8
+pub fn rlnc_stream_read(so_far: u8, bytes: &[u8], kind: &mut u8) -> u8
     ensures { RecordGiven (read_by (λ s. record_at s bytes.now) (earlier_of so_far)) kind.old result kind.new }
 {
     let Earlier::Of(seen) = seen_by(so_far) else {
@@ -82,8 +80,7 @@ pub extern "C" fn rlnc_stream_read(so_far: u8, bytes: &[u8], kind: &mut u8) -> u
     give_record(stream::read(seen, bytes), kind)
 }
 
-#[unsafe(no_mangle)]
-pub extern "C" fn rlnc_stream_write(kind: u8, piece: &[u8], out: &mut [u8]) -> u8
+pub fn rlnc_stream_write(kind: u8, piece: &[u8], out: &mut [u8]) -> u8
     ensures { PieceWritten (listed_in (geometry_of kind)) piece.now out.old result out.new }
 {
     let Listed::Of(g) = of_kind(kind) else {
@@ -93,8 +90,7 @@ pub extern "C" fn rlnc_stream_write(kind: u8, piece: &[u8], out: &mut [u8]) -> u
 }
 
 // k and L of a kind of piece; a whole piece is as many bytes as both together.
-#[unsafe(no_mangle)]
-pub extern "C" fn rlnc_stream_sizes(
+pub fn rlnc_stream_sizes(
     kind: u8,
     piece_count: &mut usize,
     piece_byte_len: &mut usize,

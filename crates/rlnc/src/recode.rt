@@ -12,8 +12,7 @@ use answers::Answer;
 use field::Field;
 use recoder::{Made, Recoder};
 
-#[unsafe(no_mangle)]
-pub extern "C" fn rlnc_recoder_new(
+pub fn rlnc_recoder_new(
     data: &[u8],
     full_coded_piece_byte_len: usize,
     num_pieces_coded_together: usize,
@@ -31,8 +30,7 @@ pub extern "C" fn rlnc_recoder_new(
     }
 }
 
-#[unsafe(no_mangle)]
-pub extern "C" fn rlnc_recoder_get_original_num_pieces_coded_together(
+pub fn rlnc_recoder_get_original_num_pieces_coded_together(
     num_pieces_received: usize,
     full_coded_piece_byte_len: usize,
     num_pieces_coded_together: usize,
@@ -48,8 +46,7 @@ pub extern "C" fn rlnc_recoder_get_original_num_pieces_coded_together(
     give_count(recoder.get_original_num_pieces_coded_together(), count)
 }
 
-#[unsafe(no_mangle)]
-pub extern "C" fn rlnc_recoder_get_num_pieces_recoded_together(
+pub fn rlnc_recoder_get_num_pieces_recoded_together(
     num_pieces_received: usize,
     full_coded_piece_byte_len: usize,
     num_pieces_coded_together: usize,
@@ -65,8 +62,7 @@ pub extern "C" fn rlnc_recoder_get_num_pieces_recoded_together(
     give_count(recoder.get_num_pieces_recoded_together(), count)
 }
 
-#[unsafe(no_mangle)]
-pub extern "C" fn rlnc_recoder_get_piece_byte_len(
+pub fn rlnc_recoder_get_piece_byte_len(
     num_pieces_received: usize,
     full_coded_piece_byte_len: usize,
     num_pieces_coded_together: usize,
@@ -82,8 +78,7 @@ pub extern "C" fn rlnc_recoder_get_piece_byte_len(
     give_count(recoder.get_piece_byte_len(), count)
 }
 
-#[unsafe(no_mangle)]
-pub extern "C" fn rlnc_recoder_get_full_coded_piece_byte_len(
+pub fn rlnc_recoder_get_full_coded_piece_byte_len(
     num_pieces_received: usize,
     full_coded_piece_byte_len: usize,
     num_pieces_coded_together: usize,
@@ -99,8 +94,7 @@ pub extern "C" fn rlnc_recoder_get_full_coded_piece_byte_len(
     give_count(recoder.get_full_coded_piece_byte_len(), count)
 }
 
-#[unsafe(no_mangle)]
-pub extern "C" fn rlnc_recoder_recode_with_buf(
+pub fn rlnc_recoder_recode_with_buf(
     num_pieces_received: usize,
     full_coded_piece_byte_len: usize,
     num_pieces_coded_together: usize,

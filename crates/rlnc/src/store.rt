@@ -6,8 +6,7 @@ use crate::decode::decoder_of;
 use answers::Answer;
 use stored::{Loaded, Saved};
 
-#[unsafe(no_mangle)]
-pub extern "C" fn rlnc_stored_save(
+pub fn rlnc_stored_save(
     piece_byte_len: usize,
     required_piece_count: usize,
     useful_piece_count: usize,
@@ -34,8 +33,7 @@ pub extern "C" fn rlnc_stored_save(
     }
 }
 
-#[unsafe(no_mangle)]
-pub extern "C" fn rlnc_stored_load(
+pub fn rlnc_stored_load(
     form: &[u8],
     elements: &mut [u8],
     piece_byte_len: &mut usize,

@@ -1,5 +1,7 @@
 // The words of the call. What a user types is the wrapper's to read.
 
+use std::env::{Env, FillError};
+
 // The listing, the data alone, or words that are not known.
 #[derive(Clone, Copy)]
 pub(crate) enum Call {
@@ -22,27 +24,39 @@ fn same(a: &[u8], b: &[u8]) -> bool {
     true
 }
 
-fn is_word(i: usize, word: &[u8]) -> bool {
-    let mut buf = io::buffer();
-    let n = os::arg(i, &mut buf);
-    same(&buf[..n], word)
+// Longer words than this are not known.
+const WORD_LEN: usize = 4096;
+
+fn is_word(rt: &HostRuntime, i: usize, word: &[u8]) -> bool {
+    let mut buf = [0u8; WORD_LEN];
+    match rt.arg(i, &mut buf) {
+        Ok(n) => same(&buf[..n], word),
+        Err(_) => false,
+    }
+}
+
+fn is_given(rt: &HostRuntime, i: usize) -> bool {
+    let mut buf = [0u8; WORD_LEN];
+    match rt.arg(i, &mut buf) {
+        Err(FillError::NotPresent) => false,
+        _ => true,
+    }
 }
 
 // Whether the status is to be reported on descriptor 3, which the first word says.
-pub(crate) fn asks_status() -> bool {
-    is_word(1, b"--status-fd=3")
+pub(crate) fn asks_status(rt: &HostRuntime) -> bool {
+    is_word(rt, 1, b"--status-fd=3")
 }
 
 // What is asked for by the words from this one on.
-pub(crate) fn read(first: usize) -> Call {
-    let count = os::arg_count();
-    if count <= first {
+pub(crate) fn read(rt: &HostRuntime, first: usize) -> Call {
+    if !is_given(rt, first) {
         return Call::Listing;
     }
-    if 1 < count - first {
+    if is_given(rt, first.saturating_add(1)) {
         return Call::Unknown;
     }
-    if is_word(first, b"--data") {
+    if is_word(rt, first, b"--data") {
         return Call::Data;
     }
     Call::Unknown

@@ -10,10 +10,15 @@ ghost use Rattle.setjoin.specs.Used.{used_by, put_by};
 use call::Call;
 use field::Field;
 use joiner::{BLOCK_LEN, Ending, Fed, Joiner, MATRIX_LEN, TEXT_LEN};
-use libc::{STDERR_FILENO, STDIN_FILENO, STDOUT_FILENO};
 use reader::INPUT_LEN;
+use std::fs::OpenOptions;
+use std::io::{IsTerminal, Print, Read, Write};
 
 mod call;
+mod failure;
+
+// How much text is kept before it is written out.
+const OUT_LEN: usize = 65536;
 
 // What is written: the listing, each line as soon as it is known, or the data alone.
 #[derive(Clone, Copy)]
@@ -31,17 +36,12 @@ enum Room {
 }
 
 // Fills the buffer, or reads to the end of the input. A read that fails says so, and then counts as the end.
-fn read(buf: &mut [u8]) -> usize
+fn read(rt: &HostRuntime, buf: &mut [u8]) -> usize
     ensures { result ≤ length buf.new }
 {
     let mut done = 0;
     while done < buf.len() {
-        let got = libc::read(STDIN_FILENO, &mut buf[done..]);
-        if got < 0 {
-            os::fail(b"setjoin: the input");
-            return done;
-        }
-        let n = io::count(got, &buf[done..]);
+        let n = some(rt, &mut buf[done..]);
         if n == 0 {
             return done;
         }
@@ -50,56 +50,90 @@ fn read(buf: &mut [u8]) -> usize
     done
 }
 
-fn write(text: &[u8]) -> bool {
-    if io::write_all(STDOUT_FILENO, text) {
-        return true;
+// Reads what is there, which is nothing at the end of the input or where the read fails.
+fn some(rt: &HostRuntime, buf: &mut [u8]) -> usize
+    ensures { result ≤ length buf.new }
+{
+    match rt.stdin().read(buf) {
+        Ok(n) => n,
+        Err(e) => {
+            failure::told(rt, "setjoin: the input", e);
+            0
+        }
     }
-    os::fail(b"setjoin: standard output");
-    false
+}
+
+fn write(rt: &HostRuntime, text: &[u8]) -> bool {
+    match Print::write_all(&rt.stdout(), text) {
+        Ok(()) => true,
+        Err(e) => {
+            failure::told(rt, "setjoin: standard output", e);
+            false
+        }
+    }
+}
+
+// To standard error, where that can be written to.
+fn complain(rt: &HostRuntime, text: &[u8]) -> bool {
+    Print::write_all(&rt.stderr(), text).is_ok()
 }
 
 // Writes the text out where the longest of a turn has no room behind it, or at once.
-fn make_room(mode: Mode, out: &[u8], used: usize) -> Room
+fn make_room(rt: &HostRuntime, mode: Mode, out: &[u8], used: usize) -> Room
     requires used_in_bounds { used ≤ length out.now }
     requires text_room_in_bounds { text_room ≤ length out.now }
     ensures { used_by result + text_room ≤ length out.now }
 {
     match mode {
         Mode::Data => Room::From(0),
-        Mode::Lines => emptied(&out[..used]),
+        Mode::Lines => emptied(rt, &out[..used]),
         Mode::Listing => {
             if TEXT_LEN <= out.len() - used {
                 return Room::From(used);
             }
-            emptied(&out[..used])
+            emptied(rt, &out[..used])
         }
     }
 }
 
-fn emptied(text: &[u8]) -> Room
+fn emptied(rt: &HostRuntime, text: &[u8]) -> Room
     ensures { used_by result ≤ 0 }
 {
-    if write(text) {
+    if write(rt, text) {
         return Room::From(0);
     }
     Room::Failed
 }
 
 // Reads what the machine wants, and feeds it.
-fn turn(m: Joiner, input: &mut [u8], elements: &mut [u8], data: &mut [u8], out: &mut [u8]) -> Fed
+fn turn(
+    rt: &HostRuntime,
+    m: Joiner,
+    input: &mut [u8],
+    elements: &mut [u8],
+    data: &mut [u8],
+    out: &mut [u8],
+) -> Fed
     requires in_bounds { 513 ≤ length input.old }
     requires block_room_in_bounds { block_room ≤ length «data».old }
     requires text_room_in_bounds { text_room ≤ length out.old }
     ensures { put_by result ≤ length out.new }
 {
     let want = m.wants();
-    let got = read(&mut input[..want]);
+    let got = read(rt, &mut input[..want]);
     m.feed(Field::Fips197, &input[..got], elements, data, out)
 }
 
 // Read, feed, write, until the machine wants nothing. A proved loop has to end, and nothing says that an input does: so the turns are counted down
 // from a number that no input uses up.
-fn run(mode: Mode, input: &mut [u8], elements: &mut [u8], data: &mut [u8], out: &mut [u8]) -> u8
+fn run(
+    rt: &HostRuntime,
+    mode: Mode,
+    input: &mut [u8],
+    elements: &mut [u8],
+    data: &mut [u8],
+    out: &mut [u8],
+) -> u8
     requires in_bounds { 513 ≤ length input.old }
     requires block_room_in_bounds { block_room ≤ length «data».old }
     requires text_room_in_bounds { text_room ≤ length out.old }
@@ -108,85 +142,85 @@ fn run(mode: Mode, input: &mut [u8], elements: &mut [u8], data: &mut [u8], out: 
     let mut used = 0;
     let mut turns = u64::MAX;
     while turns > 0 {
-        let Room::From(from) = make_room(mode, out, used) else {
+        let Room::From(from) = make_room(rt, mode, out, used) else {
             return 2;
         };
-        let Fed::Text(next, n, size) = turn(m, input, elements, data, &mut out[from..]) else {
-            return refused();
+        let Fed::Text(next, n, size) = turn(rt, m, input, elements, data, &mut out[from..]) else {
+            return refused(rt);
         };
         m = next;
         let last = from + n;
         used = last + size;
         if m.wants() == 0 {
             let ending = m.ending;
-            return end(mode, ending, &out[..used], last, data);
+            return end(rt, mode, ending, &out[..used], last, data);
         }
         turns -= 1;
     }
-    refused()
+    refused(rt)
 }
 
 // The machine has room for every turn: it refuses an input only past 2^64 bytes.
-fn refused() -> u8 {
-    io::write_all(STDERR_FILENO, b"setjoin: the input is too long\n");
+fn refused(rt: &HostRuntime) -> u8 {
+    complain(rt, b"setjoin: the input is too long\n");
     2
 }
 
 // The end: 0 for a set that was rebuilt, 1 for one that was not, 2 for a stream that stopped. The last lines begin at `last`.
-fn end(mode: Mode, ending: Ending, text: &[u8], last: usize, data: &[u8]) -> u8
+fn end(rt: &HostRuntime, mode: Mode, ending: Ending, text: &[u8], last: usize, data: &[u8]) -> u8
     requires { last ≤ length text.now }
 {
     match ending {
-        Ending::Rebuilt(n) => rebuilt(mode, text, data, n),
-        Ending::Open => not_rebuilt(mode, text, last, 1),
-        _ => not_rebuilt(mode, text, last, 2),
+        Ending::Rebuilt(n) => rebuilt(rt, mode, text, data, n),
+        Ending::Open => not_rebuilt(rt, mode, text, last, 1),
+        _ => not_rebuilt(rt, mode, text, last, 2),
     }
 }
 
-fn rebuilt(mode: Mode, text: &[u8], data: &[u8], n: usize) -> u8 {
+fn rebuilt(rt: &HostRuntime, mode: Mode, text: &[u8], data: &[u8], n: usize) -> u8 {
     let written = match mode {
         Mode::Data => {
             if data.len() < n {
                 return 2;
             }
-            write(&data[..n])
+            write(rt, &data[..n])
         }
-        _ => write(text),
+        _ => write(rt, text),
     };
     if written { 0 } else { 2 }
 }
 
-fn not_rebuilt(mode: Mode, text: &[u8], last: usize, status: u8) -> u8
+fn not_rebuilt(rt: &HostRuntime, mode: Mode, text: &[u8], last: usize, status: u8) -> u8
     requires { last ≤ length text.now }
 {
     let written = match mode {
-        Mode::Data => io::write_all(STDERR_FILENO, &text[last..]),
-        _ => write(text),
+        Mode::Data => complain(rt, &text[last..]),
+        _ => write(rt, text),
     };
     if written { status } else { 2 }
 }
 
-fn join(mode: Mode) -> u8 {
+fn join(rt: &HostRuntime, mode: Mode) -> u8 {
     let mut input = [0u8; INPUT_LEN];
     let mut elements = [0u8; MATRIX_LEN];
     let mut data = [0u8; BLOCK_LEN];
-    let mut out = io::large_buffer();
-    run(mode, &mut input, &mut elements, &mut data, &mut out)
+    let mut out = [0u8; OUT_LEN];
+    run(rt, mode, &mut input, &mut elements, &mut data, &mut out)
 }
 
 // The status of a call.
-fn answer(call: Call) -> u8 {
+fn answer(rt: &HostRuntime, call: Call) -> u8 {
     match call {
         Call::Listing => {
-            if libc::isatty(STDOUT_FILENO) == 1 {
-                return join(Mode::Lines);
+            if rt.stdout().is_terminal() {
+                return join(rt, Mode::Lines);
             }
-            join(Mode::Listing)
+            join(rt, Mode::Listing)
         }
-        Call::Data => join(Mode::Data),
+        Call::Data => join(rt, Mode::Data),
         Call::Unknown => {
-            io::write_all(
-                STDERR_FILENO,
+            complain(
+                rt,
                 b"setjoin: unknown words; use bin/setjoin, which reads a user's\n",
             );
             2
@@ -194,12 +228,19 @@ fn answer(call: Call) -> u8 {
     }
 }
 
-// A program of this kind has no status: where the first word asks for it, it goes to descriptor 3 as a digit.
-fn main() {
-    if !call::asks_status() {
-        answer(call::read(1));
+// The status, as a digit on descriptor 3.
+fn tell(rt: &HostRuntime, status: u8) {
+    if let Ok(mut to) = OpenOptions::new().append(true).open(rt, "/dev/fd/3") {
+        let _told = to.write_all(&[b'0' + status % 3]).is_ok();
+    }
+}
+
+// A program of this kind has no status: where the first word asks for it, it goes to descriptor 3.
+fn main(rt: HostRuntime) {
+    if !call::asks_status(&rt) {
+        answer(&rt, call::read(&rt, 1));
         return;
     }
-    let status = answer(call::read(2));
-    io::write_all(3, &[b'0' + status % 3]);
+    let status = answer(&rt, call::read(&rt, 2));
+    tell(&rt, status);
 }

@@ -1,0 +1,47 @@
+// The decoder: the numbers `piece_byte_len`, `required_piece_count`, `useful_piece_count` and `received_piece_count`, beside the lent matrix.
+ghost use Rattle.gf256.proofs.Known.{fips};
+ghost use Rattle.block.specs.Padding.{marker};
+ghost use Rattle.decoder.specs.Entries.{decoder_of};
+ghost use Rattle.rlnc.specs.Records.{DecoderMade, PieceTaken, DataRecovered};
+
+#[unsafe(no_mangle)]
+pub extern "C" fn rlnc_decoder_new(
+    piece_byte_len: usize,
+    required_piece_count: usize,
+    elements: &mut [u8],
+    useful_piece_count: &mut usize,
+    received_piece_count: &mut usize,
+) -> u8
+    ensures { DecoderMade piece_byte_len required_piece_count elements.old useful_piece_count.old received_piece_count.old result useful_piece_count.new received_piece_count.new elements.new }
+{
+    rlnc::rlnc_decoder_new(piece_byte_len, required_piece_count, elements, useful_piece_count, received_piece_count)
+}
+
+#[unsafe(no_mangle)]
+pub extern "C" fn rlnc_decoder_decode(
+    piece_byte_len: usize,
+    required_piece_count: usize,
+    elements: &mut [u8],
+    full_coded_piece: &[u8],
+    useful_piece_count: &mut usize,
+    received_piece_count: &mut usize,
+) -> u8
+    ensures { PieceTaken fips (decoder_of required_piece_count piece_byte_len useful_piece_count.old received_piece_count.old) elements.old full_coded_piece.now result useful_piece_count.new received_piece_count.new elements.new }
+{
+    rlnc::rlnc_decoder_decode(piece_byte_len, required_piece_count, elements, full_coded_piece, useful_piece_count, received_piece_count)
+}
+
+#[unsafe(no_mangle)]
+pub extern "C" fn rlnc_decoder_get_decoded_data(
+    piece_byte_len: usize,
+    required_piece_count: usize,
+    useful_piece_count: usize,
+    received_piece_count: usize,
+    elements: &[u8],
+    data: &mut [u8],
+    data_len: &mut usize,
+) -> u8
+    ensures { DataRecovered marker (decoder_of required_piece_count piece_byte_len useful_piece_count received_piece_count) elements.now «data».old data_len.old result data_len.new «data».new }
+{
+    rlnc::rlnc_decoder_get_decoded_data(piece_byte_len, required_piece_count, useful_piece_count, received_piece_count, elements, data, data_len)
+}
