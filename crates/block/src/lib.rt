@@ -10,6 +10,7 @@ use answers::Answer;
 pub const BOUNDARY_MARKER: u8 = 0x81;
 
 // More than 256 pieces, or pieces of more than 4,096 bytes.
+#[tactic(auto, unfolding(crate::specs::Sizes::over_limit))]
 pub fn over_limit(piece_count: usize, piece_byte_len: usize) -> bool
     ensures { result ≡ over_limit piece_count piece_byte_len }
 {
@@ -20,6 +21,7 @@ pub fn over_limit(piece_count: usize, piece_byte_len: usize) -> bool
 }
 
 // Sizes that a record may have: neither is 0 or over its limit.
+#[tactic(auto, unfolding(crate::specs::Sizes::sized))]
 pub fn sizes_fit(piece_count: usize, piece_byte_len: usize) -> bool
     ensures { result ≡ sized piece_count piece_byte_len }
 {

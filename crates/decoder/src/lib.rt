@@ -67,6 +67,7 @@ pub enum Recovered {
 
 impl Decoder {
     // A decoder that has taken no piece; its matrix is cleared.
+    #[tactic(auto, using(crate::proofs::Sound::within, crate::proofs::Sound::matrix_small), unfolding(crate::specs::Entries::new_refusal))]
     pub fn new(piece_byte_len: usize, required_piece_count: usize, elements: &mut [u8]) -> Made
         ensures { NewDecoder piece_byte_len required_piece_count elements.old result elements.new }
     {
@@ -93,6 +94,7 @@ impl Decoder {
     }
 
     // The record's numbers are good.
+    #[tactic(auto, unfolding(crate::specs::Records::sound))]
     fn is_sound(self) -> bool
         ensures { result ≡ sound self }
     {
@@ -112,6 +114,7 @@ impl Decoder {
     }
 
     // They are, and k rows fit into n bytes.
+    #[tactic(auto, using(crate::proofs::Sound::told, crate::proofs::Sound::matrix_small), unfolding(crate::specs::Records::bad_state))]
     pub fn holds(self, n: usize) -> bool
         ensures { result ≡ not (bad_state self n) }
     {
@@ -122,6 +125,7 @@ impl Decoder {
         k * (k + self.piece_byte_len) <= n
     }
 
+    #[tactic(auto, unfolding(block::specs::Counts::counted))]
     pub fn get_num_pieces_coded_together(self) -> Count
         ensures { result ≡ counted (sound self) self.required_piece_count }
     {
@@ -131,6 +135,7 @@ impl Decoder {
         Count::Of(self.required_piece_count)
     }
 
+    #[tactic(auto, unfolding(block::specs::Counts::counted))]
     pub fn get_piece_byte_len(self) -> Count
         ensures { result ≡ counted (sound self) self.piece_byte_len }
     {
@@ -141,6 +146,7 @@ impl Decoder {
     }
 
     // The coefficients and the payload.
+    #[tactic(auto, using(crate::proofs::Sound::told), unfolding(block::specs::Counts::counted))]
     pub fn get_full_coded_piece_byte_len(self) -> Count
         ensures { result ≡ counted (sound self) (self.required_piece_count + self.piece_byte_len) }
     {
@@ -150,6 +156,7 @@ impl Decoder {
         Count::Of(self.required_piece_count + self.piece_byte_len)
     }
 
+    #[tactic(auto, unfolding(block::specs::Counts::counted))]
     pub fn get_received_piece_count(self) -> Count
         ensures { result ≡ counted (sound self) self.received_piece_count.0 }
     {
@@ -159,6 +166,7 @@ impl Decoder {
         Count::Of(self.received_piece_count.0)
     }
 
+    #[tactic(auto, unfolding(block::specs::Counts::counted))]
     pub fn get_useful_piece_count(self) -> Count
         ensures { result ≡ counted (sound self) self.useful_piece_count.0 }
     {
@@ -169,6 +177,7 @@ impl Decoder {
     }
 
     // How many rows are missing.
+    #[tactic(auto, using(crate::proofs::Sound::told), unfolding(block::specs::Counts::counted))]
     pub fn get_remaining_piece_count(self) -> Count
         ensures { result ≡ counted (sound self) (self.required_piece_count - self.useful_piece_count.0) }
     {
@@ -179,6 +188,7 @@ impl Decoder {
     }
 
     // Takes a piece: a row more, which the rules then reduce with the others.
+    #[tactic(auto, using(crate::proofs::Sound::holds), unfolding(crate::specs::Entries::take_refusal))]
     pub fn decode(self, f: Field, elements: &mut [u8], full_coded_piece: &[u8]) -> Taken
         ensures { Decoded (field_of f) self elements.old full_coded_piece.now result elements.new }
     {
@@ -225,6 +235,7 @@ impl Decoder {
     }
 
     // As many rows are held as there are pieces.
+    #[tactic(auto, unfolding(crate::specs::Entries::completed))]
     pub fn is_already_decoded(self) -> Complete
         ensures { result ≡ completed self }
     {
@@ -235,6 +246,7 @@ impl Decoder {
     }
 
     // Recovers the data: the block that the rows hold, up to its last marker.
+    #[tactic(auto, using(crate::proofs::Sound::holds, crate::proofs::Sound::block_small), unfolding(crate::specs::Entries::recover_refusal))]
     pub fn get_decoded_data(self, elements: &[u8], data: &mut [u8]) -> Recovered
         ensures { Recovery marker self elements.now «data».old result «data».new }
     {
@@ -329,7 +341,7 @@ impl Decoder {
             let from = i * (k + len) + k;
             let to = from + n;
             let end = at + n;
-            bytes::copy(&elements[from..to], &mut data[at..end]);
+            data[at..end].copy_from_slice(&elements[from..to]);
             at = end;
             i += 1;
         }

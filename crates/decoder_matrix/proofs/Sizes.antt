@@ -1,15 +1,19 @@
 -- What the sizes of a matrix that fit say: every row held lies within the buffer lent. The test that asks it is a chain of three.
 -- Assumes nothing.
-use mathlib.Core.Path.{◌≡◌, refl}
+use mathlib.Core.Path.{◌≡◌, refl, sym}
 use mathlib.Core.Bool.{Bool, true, false}
-use Prim.Native.Nat.{ℕ, ◌*◌, ◌/◌, ◌≤◌, ◌<◌}
+use mathlib.Core.List.{List}
+use Prim.Native.Nat.{ℕ, ◌+◌, ◌*◌, ◌/◌, ◌≤◌, ◌<◌}
 use native.Mathlib.Nat.{mul-le-mul_right, le-div_iff_mul-le, div-lt_iff_lt-mul}
 use native.Mathlib.Omega.{arith}
 use lib.Dec.{leb}
+use lib.ListN.{length, get_or}
 use Rattle.linear.proofs.Choice.{and_true}
+use Rattle.linear.specs.Rows.{entry}
+use Rattle.linear.proofs.Buffer.{row_end, entry_at}
 use borrow.Author.Tests.{leb-true, leb-false, le-leb, lt-leb}
 use Rattle.decoder_matrix.specs.declared.DecoderMatrix.{DecoderMatrix}
-use Rattle.decoder_matrix.specs.Matrix.{k_of, sizes_fit}
+use Rattle.decoder_matrix.specs.Matrix.{k_of, sizes_fit, rows_in}
 
 -- the test by a division, where k · c may be no usize
 pub by_division : (k c n : ℕ) → 0 < c → leb k (n / c) ≡ leb (k * c) n
@@ -35,6 +39,17 @@ module _ (m : DecoderMatrix) (n : ℕ) where
       let room : k_of m * m.cols ≤ n = leb-true (k_of m * m.cols) n b.1 in
       record { few = few; wide = leb-true (k_of m) m.cols b.0; room = room; held = omega (arith, mul-le-mul_right m.cols few) }
 
+  -- a row that there is room for lies within the buffer, and so does a row held
+  pub place_in : sizes_fit m n ≡ true → (i : ℕ) → i < k_of m → i * m.cols + m.cols ≤ n
+  place_in e i h = omega (arith, (sized e).room, row_end m.cols h)
+
+  pub row_in : sizes_fit m n ≡ true → (i : ℕ) → i < m.rows → i * m.cols + m.cols ≤ n
+  row_in e i h = omega (arith, (sized e).held, row_end m.cols h)
+
+  -- row i has a byte i
+  pub column_in : sizes_fit m n ≡ true → (i : ℕ) → i < m.rows → i < m.cols
+  column_in e i h = omega (arith, sized e)
+
   pub fitting : m.rows ≤ k_of m → k_of m ≤ m.cols → sizes_fit m n ≡ leb (k_of m * m.cols) n
   unfolding sizes_fit
   fitting f w = rw (le-leb m.rows (k_of m) f, le-leb (k_of m) m.cols w)
@@ -46,3 +61,8 @@ module _ (m : DecoderMatrix) (n : ℕ) where
   pub too_narrow : m.rows ≤ k_of m → m.cols < k_of m → sizes_fit m n ≡ false
   unfolding sizes_fit
   too_narrow f h = rw (le-leb m.rows (k_of m) f, lt-leb (k_of m) m.cols h)
+
+-- byte i of row i is the entry (i, i)
+pub pivot_byte : (m : DecoderMatrix) (elements : List ℕ) → sizes_fit m (length elements) ≡ true → (i : ℕ) → i < m.rows
+    → get_or elements (i * m.cols + i) 0 ≡ entry (rows_in m elements) i i
+pivot_byte m elements e i h = sym (entry_at m.cols m.rows i i elements h (column_in m (length elements) e i h))

@@ -56,7 +56,7 @@ impl DecoderMatrix {
         }
         let a = rows * cols;
         let e = a + cols;
-        bytes::copy(row, &mut elements[a..e]);
+        elements[a..e].copy_from_slice(row);
         self.rows = rows + 1;
         Matrix::Of(self)
     }

@@ -33,7 +33,7 @@ fn pad(data: &[u8], block: &mut [u8])
 {
     let n = data.len();
     let behind = n + 1;
-    bytes::copy(data, block);
+    block[..n].copy_from_slice(data);
     block[n] = BOUNDARY_MARKER;
     rows::clear(&mut block[behind..]);
 }
@@ -97,6 +97,7 @@ impl Encoder {
         block::sizes_fit(self.piece_count, self.piece_byte_len)
     }
 
+    #[tactic(auto, unfolding(block::specs::Counts::counted))]
     pub fn get_piece_count(self) -> Count
         ensures { result ≡ counted (sized self.piece_count self.piece_byte_len) self.piece_count }
     {
@@ -106,6 +107,7 @@ impl Encoder {
         Count::Refused(Answer::BadState)
     }
 
+    #[tactic(auto, unfolding(block::specs::Counts::counted))]
     pub fn get_piece_byte_len(self) -> Count
         ensures { result ≡ counted (sized self.piece_count self.piece_byte_len) self.piece_byte_len }
     {
@@ -176,7 +178,7 @@ impl Encoder {
         if coding_vector.len() != k {
             return Answer::CodingVectorLengthMismatch;
         }
-        bytes::copy(coding_vector, full_coded_piece);
+        full_coded_piece[..k].copy_from_slice(coding_vector);
         rows::combine(f, block, coding_vector, &mut full_coded_piece[k..])
     }
 }

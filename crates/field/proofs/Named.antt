@@ -1,7 +1,6 @@
 -- A field of one case is that case, and its operations are those of FIPS 197's polynomial.
 -- Assumes nothing.
 use mathlib.Core.Path.{◌≡◌, refl}
-use Rattle.galois.specs.FieldLaws.{FieldLaws}
 use Rattle.galois.specs.Gf.{mul, inv}
 use Rattle.gf256.specs.Fips197.{polynomial}
 use Rattle.field.specs.declared.Field.{Field}

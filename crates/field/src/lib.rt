@@ -32,6 +32,7 @@ impl Field {
         }
     }
 
+    #[tactic(auto, using(galois::proofs::Divided::quotient_none))]
     pub fn div(self, a: u8, b: u8) -> Quotient
         ensures { result ≡ quotient_of (field_of self).mul (field_of self).inv a b }
     {
@@ -50,6 +51,7 @@ impl Field {
     }
 
     // q times 1, x, .., x^7: a product with q is the sum of those that the other factor's bits choose.
+    #[tactic(auto, using(crate::proofs::Doubled::eight))]
     pub fn multiples(self, q: u8) -> [u8; 8]
         ensures { result ≡ multiples_of (field_of self) q }
     {

@@ -68,6 +68,7 @@ impl Gf256 {
     }
 
     // The product of two bytes.
+    #[tactic(auto, using(crate::proofs::Products::zero_left, crate::proofs::Products::zero_right, crate::proofs::Products::one_right))]
     pub fn mul_const(a: u8, b: u8) -> u8
         ensures { result ≡ mul polynomial a b }
     {

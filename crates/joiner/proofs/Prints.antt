@@ -17,7 +17,6 @@ use Rattle.stream.specs.Geometries.{body_of}
 use Rattle.stream.specs.Streams.{largest, Stream, piece, end, stop, stream_of}
 use Rattle.reader.specs.declared.Reader.{Reader}
 use Rattle.reader.specs.declared.Came.{Came}
-use Rattle.reader.specs.declared.Came.TheVariants as came·
 use Rattle.reader.specs.declared.Progress.TheVariants.{Of}
 use Rattle.reader.specs.Reading.{wanted}
 use Rattle.reader.specs.Pump.{says_from, front, kept, declines, back, pumped_from, Reads}

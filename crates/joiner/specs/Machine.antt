@@ -13,8 +13,6 @@ use Rattle.reader.specs.declared.Progress.TheVariants as progress·
 use Rattle.reader.specs.Reading.{started, progress}
 use Rattle.reader.specs.Pump.{Program, front, kept, declines, back}
 use Rattle.listing.specs.declared.join.Joining.{Joining}
-use Rattle.listing.specs.declared.join.Step.{Step}
-use Rattle.listing.specs.declared.join.Step.TheVariants as step·
 use Rattle.listing.specs.Lines.{header_line, stop_line}
 use Rattle.listing.specs.Joining.{nothing, joined_after, elements_after, line_for}
 use Rattle.listing.specs.Listing.{end_answer, data_of, end_lines, block_room}

@@ -21,8 +21,6 @@ use Rattle.decoder.specs.declared.Recovered.{Recovered}
 use Rattle.decoder.specs.declared.Recovered.TheVariants as recovered
 use Rattle.decoder.specs.Entries.{block_in, recover_refusal, Recovery}
 use Rattle.listing.specs.declared.Put.{Put}
-use Rattle.listing.specs.declared.Put.TheVariants as put
-use Rattle.listing.specs.declared.join.Held.{Held}
 use Rattle.listing.specs.declared.join.Held.TheVariants as held
 use Rattle.listing.specs.declared.join.Joining.{Joining}
 use Rattle.listing.specs.declared.join.End.{End}

@@ -9,7 +9,6 @@ use Rattle.answers.specs.declared.Answer.{Answer}
 use Rattle.galois.specs.FieldLaws.{FieldLaws}
 use Rattle.decoder.specs.declared.Decoder.{Decoder}
 use Rattle.decoder.specs.declared.Taken.{Taken}
-use Rattle.decoder.specs.declared.Taken.TheVariants as piece
 use Rattle.decoder.specs.Answers.{taken_number, kept}
 use Rattle.decoder.specs.Entries.{Decoded}
 use Rattle.decoder.specs.Calls.{number_next, record_next}

@@ -29,7 +29,8 @@ fn put_line(line: &[u8], out: &mut [u8]) -> Put
     if out.len() < line.len() {
         return Put::Refused(Answer::NoRoom);
     }
-    Put::Bytes(bytes::copy(line, out))
+    out[..line.len()].copy_from_slice(line);
+    Put::Bytes(line.len())
 }
 
 pub fn header_line(out: &mut [u8]) -> Put
@@ -61,7 +62,8 @@ pub fn end_line(out: &mut [u8], answer: Answer, size: usize, repeats: u64) -> Pu
     ensures { Lined (end_line (number_of answer) size repeats) out.old result out.new }
 {
     let mut line = [0u8; LINE_LEN];
-    let at = bytes::copy(b"end ", &mut line);
+    let at = 4;
+    line[..at].copy_from_slice(b"end ");
     let at = text::put_number(&mut line, at, answer.number() as u64, b' ');
     let at = text::put_number(&mut line, at, size as u64, b' ');
     let at = text::put_number(&mut line, at, repeats, b'\n');
@@ -73,7 +75,8 @@ pub fn stop_line(out: &mut [u8], answer: Answer, at: u64) -> Put
     ensures { Lined (stop_line (number_of answer) at) out.old result out.new }
 {
     let mut line = [0u8; LINE_LEN];
-    let end = bytes::copy(b"stop ", &mut line);
+    let end = 5;
+    line[..end].copy_from_slice(b"stop ");
     let end = text::put_number(&mut line, end, answer.number() as u64, b' ');
     let end = text::put_number(&mut line, end, at, b'\n');
     put_line(&line[..end], out)

@@ -25,7 +25,6 @@ use Rattle.stream.specs.Geometries.{body_of}
 use Rattle.stream.specs.Records.{kind_record, record_at}
 use Rattle.stream.specs.Streams.{largest, stream_from, stream_of}
 use Rattle.stream.proofs.Streams.{from_piece, from_end, from_refused}
-use Rattle.reader.specs.declared.Place.{Place}
 use Rattle.reader.specs.declared.Place.TheVariants as place·
 use Rattle.reader.specs.declared.Reader.{Reader}
 use Rattle.reader.specs.declared.Came.{Came}
@@ -33,7 +32,7 @@ use Rattle.reader.specs.declared.Came.TheVariants as came·
 use Rattle.reader.specs.declared.Then.{Then}
 use Rattle.reader.specs.declared.Then.TheVariants as then·
 use Rattle.reader.specs.declared.Progress.TheVariants.{Of}
-use Rattle.reader.specs.Reading.{longest, started, wanted, opened_by, place_by, then_by, on, brings, progress}
+use Rattle.reader.specs.Reading.{longest, started, wanted, opened_by, place_by, then_by, brings, progress}
 use Rattle.reader.specs.Pump.{Program, says_from, front, kept, declines, back, turn_by, pumped_from}
 use Rattle.reader.proofs.Reading.{place_decides}
 use Rattle.reader.proofs.ByKind.{cut_to, by_kind}

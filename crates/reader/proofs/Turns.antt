@@ -19,13 +19,11 @@ use Rattle.stream.specs.declared.Record.{Record}
 use Rattle.stream.specs.declared.Record.TheVariants as record·
 use Rattle.stream.specs.Geometries.{body_of}
 use Rattle.stream.specs.Streams.{largest}
-use Rattle.reader.specs.declared.Place.{Place}
 use Rattle.reader.specs.declared.Place.TheVariants as place·
 use Rattle.reader.specs.declared.Reader.{Reader}
 use Rattle.reader.specs.declared.Came.{Came}
 use Rattle.reader.specs.declared.Came.TheVariants as came·
 use Rattle.reader.specs.declared.Then.{Then}
-use Rattle.reader.specs.declared.Then.TheVariants as then·
 use Rattle.reader.specs.Reading.{started, wanted, opened_by, place_by, on, brings, progress}
 use Rattle.reader.specs.declared.Progress.TheVariants.{Of}
 use Rattle.reader.specs.Pump.{Reads, done, turn}

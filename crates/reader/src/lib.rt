@@ -65,6 +65,7 @@ impl Reader {
     }
 
     // How many bytes are to be read: 0 when it is done.
+    #[tactic(auto, using(crate::proofs::Reading::body_short), unfolding(crate::specs::Reading::wanted))]
     pub fn wants(self) -> usize
         ensures { result ≡ wanted self.place }
     {
@@ -78,6 +79,7 @@ impl Reader {
 
     // Takes the bytes that are wanted, or fewer where the input has ended. 22 where there are more or none are wanted, and where the offset of the
     // next record is past the largest number.
+    #[tactic(auto, using(crate::proofs::Reading::too_many, crate::proofs::Reading::place_decides), unfolding(crate::specs::Reading::brings))]
     pub fn read(self, input: &[u8]) -> Progress
         ensures { result ≡ progress self input.now }
     {
@@ -94,6 +96,7 @@ impl Reader {
     }
 
     // The body of a piece, and the kind byte behind it.
+    #[tactic(auto, using(crate::proofs::Reading::body_cut, crate::proofs::Reading::body_far))]
     fn body(self, g: Geometry, input: &[u8]) -> Progress
         ensures { result ≡ body_brings g self input.now }
     {
@@ -116,6 +119,7 @@ impl Reader {
     }
 
     // A record was opened at the offset.
+    #[tactic(auto, unfolding(crate::specs::Reading::place_by, crate::specs::Reading::then_by))]
     fn next(self, came: Came, record: Record) -> Progress
         ensures { result ≡ on self.seen self.at came «record» }
     {
@@ -139,6 +143,7 @@ impl Reader {
 }
 
 // The record that a kind byte opens, its body still to come; 25 where the input has ended.
+#[tactic(auto, using(crate::proofs::Reading::no_byte, crate::proofs::Reading::a_byte))]
 fn opened(so_far: Seen, input: &[u8]) -> Record
     ensures { result ≡ opened_by so_far input.now }
 {

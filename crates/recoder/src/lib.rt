@@ -85,6 +85,7 @@ impl Recoder {
         )
     }
 
+    #[tactic(auto, unfolding(block::specs::Counts::counted))]
     pub fn get_original_num_pieces_coded_together(self) -> Count
         ensures { result ≡ counted (sound self) self.num_pieces_coded_together }
     {
@@ -94,6 +95,7 @@ impl Recoder {
         Count::Refused(Answer::BadState)
     }
 
+    #[tactic(auto, unfolding(block::specs::Counts::counted))]
     pub fn get_num_pieces_recoded_together(self) -> Count
         ensures { result ≡ counted (sound self) self.num_pieces_received }
     {
@@ -112,6 +114,7 @@ impl Recoder {
         Count::Refused(Answer::BadState)
     }
 
+    #[tactic(auto, unfolding(block::specs::Counts::counted))]
     pub fn get_full_coded_piece_byte_len(self) -> Count
         ensures { result ≡ counted (sound self) self.full_coded_piece_byte_len }
     {

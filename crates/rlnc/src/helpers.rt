@@ -59,11 +59,7 @@ pub fn rlnc_inplace_add_vectors(dst: &mut [u8], src: &[u8]) -> u8
     rows::inplace_add_vectors(dst, src).number()
 }
 
-pub fn rlnc_mul_vec_by_scalar_then_add_into_vec(
-    dst: &mut [u8],
-    src: &[u8],
-    scalar: u8,
-) -> u8
+pub fn rlnc_mul_vec_by_scalar_then_add_into_vec(dst: &mut [u8], src: &[u8], scalar: u8) -> u8
     ensures { Numbered (λ a. Added fips scalar src.now dst.old a dst.new) (lengths_answer src.now dst.old) result }
 {
     rows::mul_vec_by_scalar_then_add_into_vec(Field::Fips197, dst, src, scalar).number()

@@ -90,11 +90,7 @@ pub fn rlnc_stream_write(kind: u8, piece: &[u8], out: &mut [u8]) -> u8
 }
 
 // k and L of a kind of piece; a whole piece is as many bytes as both together.
-pub fn rlnc_stream_sizes(
-    kind: u8,
-    piece_count: &mut usize,
-    piece_byte_len: &mut usize,
-) -> u8
+pub fn rlnc_stream_sizes(kind: u8, piece_count: &mut usize, piece_byte_len: &mut usize) -> u8
     ensures { SizesGiven (listed_in (geometry_of kind)) piece_count.old piece_byte_len.old result piece_count.new piece_byte_len.new }
 {
     let Listed::Of(g) = of_kind(kind) else {

@@ -15,7 +15,13 @@ pub extern "C" fn rlnc_decoder_get_num_pieces_coded_together(
 ) -> u8
     ensures { CountGiven (counted (sound (decoder_of required_piece_count piece_byte_len useful_piece_count received_piece_count)) required_piece_count) count.old result count.new }
 {
-    rlnc::rlnc_decoder_get_num_pieces_coded_together(piece_byte_len, required_piece_count, useful_piece_count, received_piece_count, count)
+    rlnc::rlnc_decoder_get_num_pieces_coded_together(
+        piece_byte_len,
+        required_piece_count,
+        useful_piece_count,
+        received_piece_count,
+        count,
+    )
 }
 
 #[unsafe(no_mangle)]
@@ -28,7 +34,13 @@ pub extern "C" fn rlnc_decoder_get_piece_byte_len(
 ) -> u8
     ensures { CountGiven (counted (sound (decoder_of required_piece_count piece_byte_len useful_piece_count received_piece_count)) piece_byte_len) count.old result count.new }
 {
-    rlnc::rlnc_decoder_get_piece_byte_len(piece_byte_len, required_piece_count, useful_piece_count, received_piece_count, count)
+    rlnc::rlnc_decoder_get_piece_byte_len(
+        piece_byte_len,
+        required_piece_count,
+        useful_piece_count,
+        received_piece_count,
+        count,
+    )
 }
 
 #[unsafe(no_mangle)]
@@ -41,7 +53,13 @@ pub extern "C" fn rlnc_decoder_get_full_coded_piece_byte_len(
 ) -> u8
     ensures { CountGiven (counted (sound (decoder_of required_piece_count piece_byte_len useful_piece_count received_piece_count)) (required_piece_count + piece_byte_len)) count.old result count.new }
 {
-    rlnc::rlnc_decoder_get_full_coded_piece_byte_len(piece_byte_len, required_piece_count, useful_piece_count, received_piece_count, count)
+    rlnc::rlnc_decoder_get_full_coded_piece_byte_len(
+        piece_byte_len,
+        required_piece_count,
+        useful_piece_count,
+        received_piece_count,
+        count,
+    )
 }
 
 #[unsafe(no_mangle)]
@@ -54,7 +72,13 @@ pub extern "C" fn rlnc_decoder_get_received_piece_count(
 ) -> u8
     ensures { CountGiven (counted (sound (decoder_of required_piece_count piece_byte_len useful_piece_count received_piece_count)) received_piece_count) count.old result count.new }
 {
-    rlnc::rlnc_decoder_get_received_piece_count(piece_byte_len, required_piece_count, useful_piece_count, received_piece_count, count)
+    rlnc::rlnc_decoder_get_received_piece_count(
+        piece_byte_len,
+        required_piece_count,
+        useful_piece_count,
+        received_piece_count,
+        count,
+    )
 }
 
 #[unsafe(no_mangle)]
@@ -67,7 +91,13 @@ pub extern "C" fn rlnc_decoder_get_useful_piece_count(
 ) -> u8
     ensures { CountGiven (counted (sound (decoder_of required_piece_count piece_byte_len useful_piece_count received_piece_count)) useful_piece_count) count.old result count.new }
 {
-    rlnc::rlnc_decoder_get_useful_piece_count(piece_byte_len, required_piece_count, useful_piece_count, received_piece_count, count)
+    rlnc::rlnc_decoder_get_useful_piece_count(
+        piece_byte_len,
+        required_piece_count,
+        useful_piece_count,
+        received_piece_count,
+        count,
+    )
 }
 
 #[unsafe(no_mangle)]
@@ -80,7 +110,13 @@ pub extern "C" fn rlnc_decoder_get_remaining_piece_count(
 ) -> u8
     ensures { CountGiven (counted (sound (decoder_of required_piece_count piece_byte_len useful_piece_count received_piece_count)) (required_piece_count - useful_piece_count)) count.old result count.new }
 {
-    rlnc::rlnc_decoder_get_remaining_piece_count(piece_byte_len, required_piece_count, useful_piece_count, received_piece_count, count)
+    rlnc::rlnc_decoder_get_remaining_piece_count(
+        piece_byte_len,
+        required_piece_count,
+        useful_piece_count,
+        received_piece_count,
+        count,
+    )
 }
 
 #[unsafe(no_mangle)]
@@ -93,5 +129,11 @@ pub extern "C" fn rlnc_decoder_is_already_decoded(
 ) -> u8
     ensures { CompleteGiven (completed (decoder_of required_piece_count piece_byte_len useful_piece_count received_piece_count)) complete.old result complete.new }
 {
-    rlnc::rlnc_decoder_is_already_decoded(piece_byte_len, required_piece_count, useful_piece_count, received_piece_count, complete)
+    rlnc::rlnc_decoder_is_already_decoded(
+        piece_byte_len,
+        required_piece_count,
+        useful_piece_count,
+        received_piece_count,
+        complete,
+    )
 }

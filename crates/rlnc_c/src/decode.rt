@@ -14,7 +14,13 @@ pub extern "C" fn rlnc_decoder_new(
 ) -> u8
     ensures { DecoderMade piece_byte_len required_piece_count elements.old useful_piece_count.old received_piece_count.old result useful_piece_count.new received_piece_count.new elements.new }
 {
-    rlnc::rlnc_decoder_new(piece_byte_len, required_piece_count, elements, useful_piece_count, received_piece_count)
+    rlnc::rlnc_decoder_new(
+        piece_byte_len,
+        required_piece_count,
+        elements,
+        useful_piece_count,
+        received_piece_count,
+    )
 }
 
 #[unsafe(no_mangle)]
@@ -28,7 +34,14 @@ pub extern "C" fn rlnc_decoder_decode(
 ) -> u8
     ensures { PieceTaken fips (decoder_of required_piece_count piece_byte_len useful_piece_count.old received_piece_count.old) elements.old full_coded_piece.now result useful_piece_count.new received_piece_count.new elements.new }
 {
-    rlnc::rlnc_decoder_decode(piece_byte_len, required_piece_count, elements, full_coded_piece, useful_piece_count, received_piece_count)
+    rlnc::rlnc_decoder_decode(
+        piece_byte_len,
+        required_piece_count,
+        elements,
+        full_coded_piece,
+        useful_piece_count,
+        received_piece_count,
+    )
 }
 
 #[unsafe(no_mangle)]
@@ -43,5 +56,13 @@ pub extern "C" fn rlnc_decoder_get_decoded_data(
 ) -> u8
     ensures { DataRecovered marker (decoder_of required_piece_count piece_byte_len useful_piece_count received_piece_count) elements.now «data».old data_len.old result data_len.new «data».new }
 {
-    rlnc::rlnc_decoder_get_decoded_data(piece_byte_len, required_piece_count, useful_piece_count, received_piece_count, elements, data, data_len)
+    rlnc::rlnc_decoder_get_decoded_data(
+        piece_byte_len,
+        required_piece_count,
+        useful_piece_count,
+        received_piece_count,
+        elements,
+        data,
+        data_len,
+    )
 }

@@ -75,7 +75,13 @@ pub extern "C" fn rlnc_encoder_code_with_coding_vector(
 ) -> u8
     ensures { Numbered (λ a. Coded fips (encoder_of piece_count piece_byte_len) block.now coding_vector.now coded_data.old a coded_data.new) (code_refusal (encoder_of piece_count piece_byte_len) (length block.now) (length coding_vector.now) (length coded_data.old)) result }
 {
-    rlnc::rlnc_encoder_code_with_coding_vector(piece_count, piece_byte_len, block, coding_vector, coded_data)
+    rlnc::rlnc_encoder_code_with_coding_vector(
+        piece_count,
+        piece_byte_len,
+        block,
+        coding_vector,
+        coded_data,
+    )
 }
 
 #[unsafe(no_mangle)]
@@ -88,5 +94,11 @@ pub extern "C" fn rlnc_encoder_code_with_buf(
 ) -> u8
     ensures { Numbered (λ a. CodedWhole fips (encoder_of piece_count piece_byte_len) block.now coding_vector.now full_coded_piece.old a full_coded_piece.new) (code_whole_refusal (encoder_of piece_count piece_byte_len) (length block.now) (length coding_vector.now) (length full_coded_piece.old)) result }
 {
-    rlnc::rlnc_encoder_code_with_buf(piece_count, piece_byte_len, block, coding_vector, full_coded_piece)
+    rlnc::rlnc_encoder_code_with_buf(
+        piece_count,
+        piece_byte_len,
+        block,
+        coding_vector,
+        full_coded_piece,
+    )
 }

@@ -16,7 +16,12 @@ pub extern "C" fn rlnc_recoder_new(
 ) -> u8
     ensures { RecoderMade (length «data».now) full_coded_piece_byte_len num_pieces_coded_together num_pieces_received.old result num_pieces_received.new }
 {
-    rlnc::rlnc_recoder_new(data, full_coded_piece_byte_len, num_pieces_coded_together, num_pieces_received)
+    rlnc::rlnc_recoder_new(
+        data,
+        full_coded_piece_byte_len,
+        num_pieces_coded_together,
+        num_pieces_received,
+    )
 }
 
 #[unsafe(no_mangle)]
@@ -28,7 +33,12 @@ pub extern "C" fn rlnc_recoder_get_original_num_pieces_coded_together(
 ) -> u8
     ensures { CountGiven (counted (sound (recoder_of num_pieces_received full_coded_piece_byte_len num_pieces_coded_together)) num_pieces_coded_together) count.old result count.new }
 {
-    rlnc::rlnc_recoder_get_original_num_pieces_coded_together(num_pieces_received, full_coded_piece_byte_len, num_pieces_coded_together, count)
+    rlnc::rlnc_recoder_get_original_num_pieces_coded_together(
+        num_pieces_received,
+        full_coded_piece_byte_len,
+        num_pieces_coded_together,
+        count,
+    )
 }
 
 #[unsafe(no_mangle)]
@@ -40,7 +50,12 @@ pub extern "C" fn rlnc_recoder_get_num_pieces_recoded_together(
 ) -> u8
     ensures { CountGiven (counted (sound (recoder_of num_pieces_received full_coded_piece_byte_len num_pieces_coded_together)) num_pieces_received) count.old result count.new }
 {
-    rlnc::rlnc_recoder_get_num_pieces_recoded_together(num_pieces_received, full_coded_piece_byte_len, num_pieces_coded_together, count)
+    rlnc::rlnc_recoder_get_num_pieces_recoded_together(
+        num_pieces_received,
+        full_coded_piece_byte_len,
+        num_pieces_coded_together,
+        count,
+    )
 }
 
 #[unsafe(no_mangle)]
@@ -52,7 +67,12 @@ pub extern "C" fn rlnc_recoder_get_piece_byte_len(
 ) -> u8
     ensures { CountGiven (counted (sound (recoder_of num_pieces_received full_coded_piece_byte_len num_pieces_coded_together)) (full_coded_piece_byte_len - num_pieces_coded_together)) count.old result count.new }
 {
-    rlnc::rlnc_recoder_get_piece_byte_len(num_pieces_received, full_coded_piece_byte_len, num_pieces_coded_together, count)
+    rlnc::rlnc_recoder_get_piece_byte_len(
+        num_pieces_received,
+        full_coded_piece_byte_len,
+        num_pieces_coded_together,
+        count,
+    )
 }
 
 #[unsafe(no_mangle)]
@@ -64,7 +84,12 @@ pub extern "C" fn rlnc_recoder_get_full_coded_piece_byte_len(
 ) -> u8
     ensures { CountGiven (counted (sound (recoder_of num_pieces_received full_coded_piece_byte_len num_pieces_coded_together)) full_coded_piece_byte_len) count.old result count.new }
 {
-    rlnc::rlnc_recoder_get_full_coded_piece_byte_len(num_pieces_received, full_coded_piece_byte_len, num_pieces_coded_together, count)
+    rlnc::rlnc_recoder_get_full_coded_piece_byte_len(
+        num_pieces_received,
+        full_coded_piece_byte_len,
+        num_pieces_coded_together,
+        count,
+    )
 }
 
 #[unsafe(no_mangle)]
@@ -78,5 +103,12 @@ pub extern "C" fn rlnc_recoder_recode_with_buf(
 ) -> u8
     ensures { Numbered (λ a. Recoded fips (recoder_of num_pieces_received full_coded_piece_byte_len num_pieces_coded_together) pieces.now recoding_vector.now full_recoded_piece.old a full_recoded_piece.new) (recode_refusal (recoder_of num_pieces_received full_coded_piece_byte_len num_pieces_coded_together) (length pieces.now) (length recoding_vector.now) (length full_recoded_piece.old)) result }
 {
-    rlnc::rlnc_recoder_recode_with_buf(num_pieces_received, full_coded_piece_byte_len, num_pieces_coded_together, pieces, recoding_vector, full_recoded_piece)
+    rlnc::rlnc_recoder_recode_with_buf(
+        num_pieces_received,
+        full_coded_piece_byte_len,
+        num_pieces_coded_together,
+        pieces,
+        recoding_vector,
+        full_recoded_piece,
+    )
 }

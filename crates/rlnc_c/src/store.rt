@@ -14,7 +14,15 @@ pub extern "C" fn rlnc_stored_save(
 ) -> u8
     ensures { FormSaved (decoder_of required_piece_count piece_byte_len useful_piece_count received_piece_count) elements.now form.old form_len.old result form_len.new form.new }
 {
-    rlnc::rlnc_stored_save(piece_byte_len, required_piece_count, useful_piece_count, received_piece_count, elements, form, form_len)
+    rlnc::rlnc_stored_save(
+        piece_byte_len,
+        required_piece_count,
+        useful_piece_count,
+        received_piece_count,
+        elements,
+        form,
+        form_len,
+    )
 }
 
 #[unsafe(no_mangle)]
@@ -28,5 +36,12 @@ pub extern "C" fn rlnc_stored_load(
 ) -> u8
     ensures { FormLoaded form.now elements.old (decoder_of required_piece_count.old piece_byte_len.old useful_piece_count.old received_piece_count.old) result (decoder_of required_piece_count.new piece_byte_len.new useful_piece_count.new received_piece_count.new) elements.new }
 {
-    rlnc::rlnc_stored_load(form, elements, piece_byte_len, required_piece_count, useful_piece_count, received_piece_count)
+    rlnc::rlnc_stored_load(
+        form,
+        elements,
+        piece_byte_len,
+        required_piece_count,
+        useful_piece_count,
+        received_piece_count,
+    )
 }

@@ -14,7 +14,6 @@ use Rattle.stream.specs.declared.Geometry.{Geometry}
 use Rattle.decoder.specs.declared.Decoder.{Decoder}
 use Rattle.decoder.specs.Records.{k_of, l_of, bad_state}
 use Rattle.decoder.proofs.Sound.{holds}
-use Rattle.stored.specs.declared.Listed.{Listed}
 use Rattle.stored.specs.declared.Listed.TheVariants as listed
 use Rattle.stored.specs.declared.Saved.TheVariants as saved
 use Rattle.stored.specs.declared.Loaded.TheVariants as loaded

@@ -20,7 +20,6 @@ use Rattle.stream.specs.declared.Geometry.TheVariants.{Of3By2, Of16By240, Of32By
 use Rattle.stream.specs.Geometries.{pieces_of, length_of, body_of}
 use Rattle.decoder.specs.declared.Decoder.{Decoder}
 use Rattle.decoder.specs.Records.{k_of, l_of, f_of, rows_in, held_rows}
-use Rattle.stored.specs.declared.Listed.{Listed}
 use Rattle.stored.specs.declared.Listed.TheVariants as listed
 use Rattle.stored.specs.Forms.{stored_kind, matrix_size, form_size, stored_geometry, size_geometry, form_of}
 use Rattle.stored.proofs.Numbers.{inside}

@@ -61,6 +61,7 @@ fn form_len(g: Geometry) -> usize
     4 + matrix_len(g)
 }
 
+#[tactic(auto, unfolding(crate::specs::Forms::stored_geometry))]
 fn of_kind(kind: u8) -> Listed
     ensures { result ≡ stored_geometry kind }
 {
@@ -72,6 +73,7 @@ fn of_kind(kind: u8) -> Listed
     }
 }
 
+#[tactic(auto, unfolding(crate::specs::Forms::size_geometry))]
 fn of_sizes(piece_count: usize, piece_byte_len: usize) -> Listed
     ensures { result ≡ size_geometry piece_count piece_byte_len }
 {
@@ -92,7 +94,7 @@ fn put_matrix(elements: &[u8], held: usize, part: &mut [u8])
     requires { (held ≤ length elements.now) × (held ≤ length part.old) }
     ensures { part.new ≡ take held elements.now ++ replicate (length part.old - held) 0 }
 {
-    bytes::copy(&elements[..held], part);
+    part[..held].copy_from_slice(&elements[..held]);
     rows::clear(&mut part[held..]);
 }
 
@@ -132,6 +134,7 @@ pub fn save(d: Decoder, elements: &[u8], out: &mut [u8]) -> Saved
 }
 
 // The taken count: high byte first.
+#[tactic(auto, unfolding(crate::specs::Forms::form_taken))]
 fn taken_in(form: &[u8]) -> usize
     requires { 4 ≤ length form.now }
     ensures { result ≡ form_taken form.now }
@@ -157,6 +160,7 @@ fn is_bad_form(g: Geometry, form: &[u8]) -> bool
 }
 
 // The record in a form.
+#[tactic(auto, unfolding(crate::specs::Forms::form_rows, crate::specs::Forms::form_decoder))]
 fn decoder_in(g: Geometry, form: &[u8]) -> Decoder
     requires { 4 ≤ length form.now }
     ensures { result ≡ form_decoder g form.now }
@@ -185,12 +189,13 @@ pub fn load(form: &[u8], elements: &mut [u8]) -> Loaded
     if form.len() < e {
         return Loaded::Refused(Answer::CutRecord);
     }
-    if elements.len() < matrix_len(g) {
+    let n = matrix_len(g);
+    if elements.len() < n {
         return Loaded::Refused(Answer::NoRoom);
     }
     if is_bad_form(g, form) {
         return Loaded::Refused(Answer::BadState);
     }
-    bytes::copy(&form[4..e], elements);
+    elements[..n].copy_from_slice(&form[4..e]);
     Loaded::Of(decoder_in(g, form))
 }

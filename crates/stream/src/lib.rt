@@ -78,6 +78,7 @@ impl Geometry {
 
 impl Seen {
     // A piece of this geometry may follow.
+    #[tactic(auto, unfolding(crate::specs::Records::fits_in, crate::specs::Geometries::same_geometry))]
     fn fits(self, g: Geometry) -> bool
         ensures { result ≡ fits_in self g }
     {
@@ -89,6 +90,7 @@ impl Seen {
 }
 
 // A piece of the geometry, with so many bytes behind its kind.
+#[tactic(auto, unfolding(crate::specs::Records::piece_record))]
 fn piece_record(so_far: Seen, g: Geometry, behind: usize) -> Record
     ensures { result ≡ piece_record so_far behind (some g) }
 {
@@ -104,6 +106,7 @@ fn piece_record(so_far: Seen, g: Geometry, behind: usize) -> Record
 }
 
 // The record of a kind, with so many bytes behind it.
+#[tactic(auto, unfolding(crate::specs::Records::kind_record, crate::specs::Geometries::geometry_of, crate::specs::Records::piece_record))]
 pub fn read_kind(so_far: Seen, kind: u8, behind: usize) -> Record
     ensures { result ≡ kind_record so_far kind behind }
 {
@@ -117,6 +120,7 @@ pub fn read_kind(so_far: Seen, kind: u8, behind: usize) -> Record
 }
 
 // The record at the front of the bytes.
+#[tactic(auto, unfolding(crate::specs::Records::record_at))]
 pub fn read(so_far: Seen, bytes: &[u8]) -> Record
     ensures { result ≡ record_at so_far bytes.now }
 {
@@ -127,6 +131,7 @@ pub fn read(so_far: Seen, bytes: &[u8]) -> Record
 }
 
 // The record of a piece: its kind, then the piece.
+#[tactic(auto, unfolding(crate::specs::Records::write_refusal))]
 pub fn write(g: Geometry, piece: &[u8], out: &mut [u8]) -> Answer
     ensures { Written g piece.now out.old result out.new }
 {
@@ -137,6 +142,6 @@ pub fn write(g: Geometry, piece: &[u8], out: &mut [u8]) -> Answer
         return Answer::InvalidOutputBuffer;
     }
     out[0] = g.kind();
-    bytes::copy(piece, &mut out[1..]);
+    out[1..].copy_from_slice(piece);
     Answer::Ok
 }

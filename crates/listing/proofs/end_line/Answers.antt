@@ -1,0 +1,17 @@
+-- `listing::end_line` meets its contract: the word stands first, each number behind what is before it, and 84 bytes are room for all.
+use Rattle.std.proofs.Common.{List, [], ◌∷◌, ◌++◌, ℕ, append_assoc, ap, refl, ◌∙◌, subst, drop}
+use Rattle.std.proofs.Math.ListN.{replicate}
+use Rattle.listing.specs.Lines.{end_line}
+use Rattle.listing.specs.Puts.{Lined}
+use Rattle.listing.proofs.Putting.{starts_with, grows}
+use Rattle.listing.proofs.end_line.Goals as goal
+
+pub returns : goal.returns
+unfolding end_line
+returns c =
+    let s = starts_with (101 ∷ 110 ∷ 100 ∷ 32 ∷ []) (replicate 84 0) {at = 4} refl (ap (λ (l : List ℕ). l ++ drop 4 (replicate 84 0)) c.copy_from_slice.ensures.after) in
+    let s = grows s c.put_number-at.ensures.appended in
+    let s = grows s c.put_number-at-2.ensures.appended in
+    let s = grows s c.put_number-at-3.ensures.appended in
+    let p = c.put_line in
+    subst (λ (l : List ℕ). Lined l c.args.out.now p.result p.new.out) (s.front ∙ simp (append_assoc, c.number.ensures)) p.ensures
