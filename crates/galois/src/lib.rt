@@ -2,7 +2,6 @@
 // It has no functions. Its one type is what an inverse or a quotient answers.
 #![tactic(auto)]
 
-
 // The byte, or nothing: zero has no inverse, and division by it has no answer.
 #[derive(Clone, Copy)]
 pub enum Quotient {

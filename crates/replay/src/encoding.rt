@@ -3,52 +3,66 @@ use super::{Call, say};
 use encoder::{Encoder, Made};
 use field::Field;
 
-pub(crate) fn call(c: Call, e: Encoder, block: &mut [u8], a: &mut [u8], b: &mut [u8]) -> Encoder {
-    let next = asked(c, e, block, a, b);
-    counts(next);
-    say::buffers(block, a, b);
+pub(crate) fn call(
+    rt: &HostRuntime,
+    c: Call,
+    e: Encoder,
+    block: &mut [u8],
+    a: &mut [u8],
+    b: &mut [u8],
+) -> Encoder {
+    let next = asked(rt, c, e, block, a, b);
+    counts(rt, next);
+    say::buffers(rt, block, a, b);
     next
 }
 
-fn counts(e: Encoder) {
-    say::count(e.get_piece_count());
-    say::count(e.get_piece_byte_len());
-    say::count(e.get_full_coded_piece_byte_len());
+fn counts(rt: &HostRuntime, e: Encoder) {
+    say::count(rt, e.get_piece_count());
+    say::count(rt, e.get_piece_byte_len());
+    say::count(rt, e.get_full_coded_piece_byte_len());
 }
 
 // The answer is said, and the record is the one to keep.
-fn asked(c: Call, e: Encoder, block: &mut [u8], a: &[u8], b: &mut [u8]) -> Encoder {
+fn asked(
+    rt: &HostRuntime,
+    c: Call,
+    e: Encoder,
+    block: &mut [u8],
+    a: &[u8],
+    b: &mut [u8],
+) -> Encoder {
     let op = c.op;
     match op {
-        0x11 => made(e, Encoder::new(a, block, c.p)),
-        0x12 => made(e, Encoder::without_padding(block, c.p)),
+        0x11 => made(rt, e, Encoder::new(a, block, c.p)),
+        0x12 => made(rt, e, Encoder::without_padding(block, c.p)),
         0x13 => {
-            say::number(0);
+            say::number(rt, 0);
             Encoder {
                 piece_count: c.p,
                 piece_byte_len: c.q,
             }
         }
         0x14 => {
-            say::answer(e.code_with_coding_vector(Field::Fips197, block, a, b));
+            say::answer(rt, e.code_with_coding_vector(Field::Fips197, block, a, b));
             e
         }
         _ => {
-            say::answer(e.code_with_buf(Field::Fips197, block, a, b));
+            say::answer(rt, e.code_with_buf(Field::Fips197, block, a, b));
             e
         }
     }
 }
 
 // A refusal leaves the record that was there.
-fn made(before: Encoder, m: Made) -> Encoder {
+fn made(rt: &HostRuntime, before: Encoder, m: Made) -> Encoder {
     match m {
         Made::Of(e) => {
-            say::number(0);
+            say::number(rt, 0);
             e
         }
         Made::Refused(a) => {
-            say::answer(a);
+            say::answer(rt, a);
             before
         }
     }

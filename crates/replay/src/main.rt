@@ -7,8 +7,8 @@ ghost use Rattle.std.specs.Prelude.{◌+◌, ◌≤◌, length};
 
 use decoder::{Decoder, ReceivedPieceCount, UsefulPieceCount};
 use encoder::Encoder;
-use libc::{STDIN_FILENO, STDOUT_FILENO};
 use recoder::Recoder;
+use std::io::Read;
 
 mod decoding;
 mod encoding;
@@ -18,6 +18,9 @@ mod say;
 
 // The bytes of a call before its slices.
 const HEAD_LEN: usize = 31;
+
+// Room for a block, for pieces, and for each slice of a call.
+const BUFFER_LEN: usize = 65536;
 
 // Room for a matrix of 256 pieces of 2 bytes.
 const MATRIX_LEN: usize = 66048;
@@ -117,32 +120,72 @@ fn nothing() -> Kept {
     }
 }
 
+// Fills the buffer, or reads to the end of the input: how many bytes came. A read that fails counts as the end.
+fn fill(rt: &HostRuntime, buf: &mut [u8]) -> usize
+    ensures { result ≤ length buf.new }
+{
+    let mut done = 0;
+    while done < buf.len() {
+        let n = match rt.stdin().read(&mut buf[done..]) {
+            Ok(n) => n,
+            Err(_) => 0,
+        };
+        if n == 0 {
+            return done;
+        }
+        done += n;
+    }
+    done
+}
+
 // The front of a kept buffer written anew, as the call says. How much of the buffer is lent.
-fn loaded(c: Call, kept: &mut [u8]) -> usize
+fn loaded(rt: &HostRuntime, c: Call, kept: &mut [u8]) -> usize
     ensures { result ≤ length kept.new }
 {
     let n = lesser(c.load, kept.len());
-    io::read_full(STDIN_FILENO, &mut kept[..n]);
+    fill(rt, &mut kept[..n]);
     lesser(c.lent, kept.len())
 }
 
-fn encoder_call(c: Call, e: Encoder, block: &mut [u8], a: &mut [u8], b: &mut [u8]) -> Encoder {
-    let n = loaded(c, block);
-    encoding::call(c, e, &mut block[..n], a, b)
+fn encoder_call(
+    rt: &HostRuntime,
+    c: Call,
+    e: Encoder,
+    block: &mut [u8],
+    a: &mut [u8],
+    b: &mut [u8],
+) -> Encoder {
+    let n = loaded(rt, c, block);
+    encoding::call(rt, c, e, &mut block[..n], a, b)
 }
 
-fn recoder_call(c: Call, r: Recoder, pieces: &mut [u8], a: &mut [u8], b: &mut [u8]) -> Recoder {
-    let n = loaded(c, pieces);
-    recoding::call(c, r, &mut pieces[..n], a, b)
+fn recoder_call(
+    rt: &HostRuntime,
+    c: Call,
+    r: Recoder,
+    pieces: &mut [u8],
+    a: &mut [u8],
+    b: &mut [u8],
+) -> Recoder {
+    let n = loaded(rt, c, pieces);
+    recoding::call(rt, c, r, &mut pieces[..n], a, b)
 }
 
-fn decoder_call(c: Call, d: Decoder, elements: &mut [u8], a: &mut [u8], b: &mut [u8]) -> Decoder {
-    let n = loaded(c, elements);
-    decoding::call(c, d, &mut elements[..n], a, b)
+fn decoder_call(
+    rt: &HostRuntime,
+    c: Call,
+    d: Decoder,
+    elements: &mut [u8],
+    a: &mut [u8],
+    b: &mut [u8],
+) -> Decoder {
+    let n = loaded(rt, c, elements);
+    decoding::call(rt, c, d, &mut elements[..n], a, b)
 }
 
 // One call, whose slices are a and b. The high digit of its kind says whom it asks.
 fn one(
+    rt: &HostRuntime,
     c: Call,
     k: Kept,
     a: &mut [u8],
@@ -151,30 +194,30 @@ fn one(
     pieces: &mut [u8],
     elements: &mut [u8],
 ) -> Kept {
-    io::read_full(STDIN_FILENO, a);
-    io::read_full(STDIN_FILENO, b);
+    fill(rt, a);
+    fill(rt, b);
     let encoder = k.encoder;
     let recoder = k.recoder;
     let decoder = k.decoder;
     match c.op / 16 {
         0 => {
-            plain::call(c, a, b);
+            plain::call(rt, c, a, b);
             k
         }
         1 => Kept {
-            encoder: encoder_call(c, encoder, block, a, b),
+            encoder: encoder_call(rt, c, encoder, block, a, b),
             recoder,
             decoder,
         },
         2 => Kept {
             encoder,
-            recoder: recoder_call(c, recoder, pieces, a, b),
+            recoder: recoder_call(rt, c, recoder, pieces, a, b),
             decoder,
         },
         3 => Kept {
             encoder,
             recoder,
-            decoder: decoder_call(c, decoder, elements, a, b),
+            decoder: decoder_call(rt, c, decoder, elements, a, b),
         },
         _ => nothing(),
     }
@@ -182,6 +225,7 @@ fn one(
 
 // The next call of the script, which is the n-th.
 fn turn(
+    rt: &HostRuntime,
     n: u64,
     k: Kept,
     a: &mut [u8],
@@ -191,25 +235,32 @@ fn turn(
     elements: &mut [u8],
 ) -> After {
     let mut head = [0u8; HEAD_LEN];
-    if io::read_full(STDIN_FILENO, &mut head) < HEAD_LEN {
+    if fill(rt, &mut head) < HEAD_LEN {
         return After::Done;
     }
     let c = call_in(&head);
     let i = lesser(c.a, a.len());
     let j = lesser(c.b, b.len());
-    io::print_decimal(STDOUT_FILENO, n);
-    let next = one(c, k, &mut a[..i], &mut b[..j], block, pieces, elements);
-    io::write_all(STDOUT_FILENO, b"\n");
+    let _written = print!(rt; "{n}").is_ok();
+    let next = one(rt, c, k, &mut a[..i], &mut b[..j], block, pieces, elements);
+    say::put(rt, b"\n");
     After::Next(next)
 }
 
 // The calls one after the other. A proved loop has to end, and nothing says that an input does: so the calls are counted up to a number
 // that no input reaches.
-fn run(a: &mut [u8], b: &mut [u8], block: &mut [u8], pieces: &mut [u8], elements: &mut [u8]) {
+fn run(
+    rt: &HostRuntime,
+    a: &mut [u8],
+    b: &mut [u8],
+    block: &mut [u8],
+    pieces: &mut [u8],
+    elements: &mut [u8],
+) {
     let mut kept = nothing();
     let mut n = 1;
     while n < u64::MAX {
-        let After::Next(next) = turn(n, kept, a, b, block, pieces, elements) else {
+        let After::Next(next) = turn(rt, n, kept, a, b, block, pieces, elements) else {
             return;
         };
         kept = next;
@@ -217,11 +268,11 @@ fn run(a: &mut [u8], b: &mut [u8], block: &mut [u8], pieces: &mut [u8], elements
     }
 }
 
-fn main() {
-    let mut a = io::large_buffer();
-    let mut b = io::large_buffer();
-    let mut block = io::large_buffer();
-    let mut pieces = io::large_buffer();
+fn main(rt: HostRuntime) {
+    let mut a = [0u8; BUFFER_LEN];
+    let mut b = [0u8; BUFFER_LEN];
+    let mut block = [0u8; BUFFER_LEN];
+    let mut pieces = [0u8; BUFFER_LEN];
     let mut elements = [0u8; MATRIX_LEN];
-    run(&mut a, &mut b, &mut block, &mut pieces, &mut elements);
+    run(&rt, &mut a, &mut b, &mut block, &mut pieces, &mut elements);
 }

@@ -4,31 +4,33 @@ use decoder_matrix::{DecoderMatrix, Matrix};
 use field::Field;
 use galois::Quotient;
 use gf256::Gf256;
-use libc::STDOUT_FILENO;
 use rows::Parts;
 
-pub(crate) fn call(c: Call, a: &mut [u8], b: &mut [u8]) {
-    asked(c, a, b);
-    say::bytes(a);
-    say::bytes(b);
+pub(crate) fn call(rt: &HostRuntime, c: Call, a: &mut [u8], b: &mut [u8]) {
+    asked(rt, c, a, b);
+    say::bytes(rt, a);
+    say::bytes(rt, b);
 }
 
 // What is asked, and what was answered is said.
-fn asked(c: Call, a: &mut [u8], b: &[u8]) {
+fn asked(rt: &HostRuntime, c: Call, a: &mut [u8], b: &[u8]) {
     let op = c.op;
     match op {
-        1 => field(low(c.p)),
+        1 => field(rt, low(c.p)),
         2 => {
             rows::inplace_mul_vec_by_scalar(Field::Fips197, a, low(c.p));
-            say::number(0);
+            say::number(rt, 0);
         }
-        3 => say::answer(rows::inplace_add_vectors(a, b)),
-        4 => say::answer(rows::mul_vec_by_scalar_then_add_into_vec(Field::Fips197, a, b, low(c.p))),
-        5 => part(c, a),
-        6 => matrix(of(c).add_row(a, b)),
-        7 => say::answer(of(c).swap_rows(a, c.s, c.t)),
-        8 => matrix(of(c).rref(Field::Fips197, a)),
-        _ => say::number(0),
+        3 => say::answer(rt, rows::inplace_add_vectors(a, b)),
+        4 => say::answer(
+            rt,
+            rows::mul_vec_by_scalar_then_add_into_vec(Field::Fips197, a, b, low(c.p)),
+        ),
+        5 => part(rt, c, a),
+        6 => matrix(rt, of(c).add_row(a, b)),
+        7 => say::answer(rt, of(c).swap_rows(a, c.s, c.t)),
+        8 => matrix(rt, of(c).rref(Field::Fips197, a)),
+        _ => say::number(rt, 0),
     }
 }
 
@@ -36,49 +38,49 @@ fn low(n: usize) -> u8 {
     (n % 256) as u8
 }
 
-fn hex(n: u8) {
-    io::print_hex(STDOUT_FILENO, super::wide(n) as u64, 2);
+fn hex(rt: &HostRuntime, n: u8) {
+    let _written = print!(rt; "{n:02x}").is_ok();
 }
 
 // The products of a byte and every byte, its quotients by every byte, and its inverse.
-fn field(x: u8) {
-    io::write_all(STDOUT_FILENO, b" ");
-    products(x);
-    io::write_all(STDOUT_FILENO, b" ");
-    quotients(Gf256::new(x));
-    io::write_all(STDOUT_FILENO, b" ");
-    quotient(Gf256::new(x).inv());
+fn field(rt: &HostRuntime, x: u8) {
+    say::put(rt, b" ");
+    products(rt, x);
+    say::put(rt, b" ");
+    quotients(rt, Gf256::new(x));
+    say::put(rt, b" ");
+    quotient(rt, Gf256::new(x).inv());
 }
 
-fn products(x: u8) {
+fn products(rt: &HostRuntime, x: u8) {
     for y in 0..256 {
-        hex(Gf256::mul_const(x, low(y)));
+        hex(rt, Gf256::mul_const(x, low(y)));
     }
 }
 
-fn quotients(x: Gf256) {
+fn quotients(rt: &HostRuntime, x: Gf256) {
     for y in 0..256 {
-        quotient(x.div(Gf256::new(low(y))));
+        quotient(rt, x.div(Gf256::new(low(y))));
     }
 }
 
-fn quotient(q: Quotient) {
+fn quotient(rt: &HostRuntime, q: Quotient) {
     match q {
-        Quotient::Byte(v) => hex(v),
+        Quotient::Byte(v) => hex(rt, v),
         Quotient::ByZero => {
-            io::write_all(STDOUT_FILENO, b"--");
+            say::put(rt, b"--");
         }
     }
 }
 
-fn part(c: Call, buffer: &mut [u8]) {
+fn part(rt: &HostRuntime, c: Call, buffer: &mut [u8]) {
     let parts = Parts {
         from: c.p,
         to: c.q,
         len: c.r,
     };
     let r = rows::mul_part_by_scalar_then_add_into_part(Field::Fips197, buffer, parts, low(c.s));
-    say::answer(r);
+    say::answer(rt, r);
 }
 
 fn of(c: Call) -> DecoderMatrix {
@@ -89,14 +91,14 @@ fn of(c: Call) -> DecoderMatrix {
     }
 }
 
-fn matrix(m: Matrix) {
+fn matrix(rt: &HostRuntime, m: Matrix) {
     match m {
         Matrix::Of(now) => {
-            say::number(0);
-            say::number(now.num_pieces_coded_together);
-            say::number(now.rows);
-            say::number(now.cols);
+            say::number(rt, 0);
+            say::number(rt, now.num_pieces_coded_together);
+            say::number(rt, now.rows);
+            say::number(rt, now.cols);
         }
-        Matrix::Refused(a) => say::answer(a),
+        Matrix::Refused(a) => say::answer(rt, a),
     }
 }
