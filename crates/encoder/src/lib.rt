@@ -40,6 +40,7 @@ fn pad(data: &[u8], block: &mut [u8])
 
 impl Encoder {
     // Pads the data into the lent block.
+    #[tactic(auto, using(block::proofs::Filling::round_up), unfolding(crate::specs::Entries::padded_refusal, crate::specs::Made::made))]
     pub fn new(data: &[u8], block: &mut [u8], piece_count: usize) -> Made
         ensures { NewPadded marker «data».now block.old piece_count result block.new }
     {
@@ -67,6 +68,7 @@ impl Encoder {
     }
 
     // The data is the block already.
+    #[tactic(auto, using(crate::proofs::Outcomes::unpadded_refused, crate::proofs::Outcomes::unpadded_made), unfolding(crate::specs::Entries::unpadded_refusal))]
     pub fn without_padding(data: &[u8], piece_count: usize) -> Made
         ensures { NewUnpadded (length «data».now) piece_count result }
     {
@@ -117,6 +119,7 @@ impl Encoder {
         Count::Refused(Answer::BadState)
     }
 
+    #[tactic(auto, using(block::proofs::Bounds::within), unfolding(block::specs::Counts::counted))]
     pub fn get_full_coded_piece_byte_len(self) -> Count
         ensures { result ≡ counted (sized self.piece_count self.piece_byte_len) (self.piece_count + self.piece_byte_len) }
     {
@@ -127,6 +130,7 @@ impl Encoder {
     }
 
     // The record's numbers are good, and the lent block is as long as they say.
+    #[tactic(auto, using(block::proofs::Bounds::not_less, block::proofs::Bounds::within, block::proofs::Bounds::block_within), unfolding(crate::specs::Entries::bad_state))]
     fn holds(self, block: &[u8]) -> bool
         ensures { result ≡ not (bad_state self (length block.now)) }
     {
@@ -137,6 +141,7 @@ impl Encoder {
     }
 
     // The payload of the piece that the vector codes.
+    #[tactic(auto, using(crate::proofs::Outcomes::code_refused), unfolding(crate::specs::Entries::code_refusal))]
     pub fn code_with_coding_vector(
         self,
         f: Field,
@@ -159,6 +164,7 @@ impl Encoder {
     }
 
     // The whole piece: the vector, then the payload that it codes.
+    #[tactic(auto, using(crate::proofs::Outcomes::code_whole_refused), unfolding(crate::specs::Entries::code_whole_refusal))]
     pub fn code_with_buf(
         self,
         f: Field,

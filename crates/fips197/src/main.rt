@@ -4,16 +4,11 @@
 
 use galois::Quotient;
 use gf256::Gf256;
-use libc::STDOUT_FILENO;
+use std::io;
 
-fn product(a: u8, b: u8) {
-    io::write_all(STDOUT_FILENO, b"{");
-    io::print_hex(STDOUT_FILENO, a as u64, 2);
-    io::write_all(STDOUT_FILENO, b"} . {");
-    io::print_hex(STDOUT_FILENO, b as u64, 2);
-    io::write_all(STDOUT_FILENO, b"} = {");
-    io::print_hex(STDOUT_FILENO, Gf256::mul_const(a, b) as u64, 2);
-    io::write_all(STDOUT_FILENO, b"}\n");
+fn product(rt: &impl Print, a: u8, b: u8) -> io::Result<()> {
+    let c = Gf256::mul_const(a, b);
+    println!(rt; "{{{a:02x}}} . {{{b:02x}}} = {{{c:02x}}}")
 }
 
 // The bits turned left by one place.
@@ -35,24 +30,26 @@ fn s_box(a: u8) -> u8 {
 }
 
 // A row of the S-box: the bytes whose high digit is given.
-fn row(high: u8) {
+fn row(rt: &impl Print, high: u8) -> io::Result<()> {
     if 16 <= high {
-        return;
+        return Ok(());
     }
     for low in 0..16u8 {
-        io::print_hex(STDOUT_FILENO, s_box(high * 16 + low) as u64, 2);
+        let b = s_box(high * 16 + low);
+        print!(rt; "{b:02x}")?;
     }
-    io::write_all(STDOUT_FILENO, b"\n");
+    println!(rt)
 }
 
-fn main() {
-    product(0x57, 0x83);
-    product(0x57, 0x13);
-    product(0x57, 0x02);
-    product(0x57, 0x04);
-    product(0x57, 0x08);
-    product(0x57, 0x10);
+fn main(rt: HostRuntime) -> io::Result<()> {
+    product(&rt, 0x57, 0x83)?;
+    product(&rt, 0x57, 0x13)?;
+    product(&rt, 0x57, 0x02)?;
+    product(&rt, 0x57, 0x04)?;
+    product(&rt, 0x57, 0x08)?;
+    product(&rt, 0x57, 0x10)?;
     for high in 0..16u8 {
-        row(high);
+        row(&rt, high)?;
     }
+    Ok(())
 }

@@ -27,6 +27,7 @@ pub enum Made {
 
 impl Recoder {
     // For the whole pieces at the front of the data.
+    #[tactic(auto, using(crate::proofs::Outcomes::new_refused, crate::proofs::Outcomes::new_made), unfolding(crate::specs::Entries::new_refusal))]
     pub fn new(
         data: &[u8],
         full_coded_piece_byte_len: usize,
@@ -67,6 +68,7 @@ impl Recoder {
     }
 
     // The record's numbers are good.
+    #[tactic(auto, unfolding(crate::specs::Entries::sound))]
     fn is_sound(self) -> bool
         ensures { result ≡ sound self }
     {
@@ -105,6 +107,7 @@ impl Recoder {
         Count::Refused(Answer::BadState)
     }
 
+    #[tactic(auto, unfolding(block::specs::Counts::counted))]
     pub fn get_piece_byte_len(self) -> Count
         ensures { result ≡ counted (sound self) (self.full_coded_piece_byte_len - self.num_pieces_coded_together) }
     {
@@ -125,6 +128,7 @@ impl Recoder {
     }
 
     // The record's numbers are good, and the lent pieces are as many bytes as they say.
+    #[tactic(auto, using(block::proofs::Bounds::not_less, crate::proofs::State::numbers, crate::proofs::State::pieces_within), unfolding(crate::specs::Entries::bad_state))]
     fn holds(self, pieces: &[u8]) -> bool
         ensures { result ≡ not (bad_state self (length pieces.now)) }
     {
@@ -135,6 +139,7 @@ impl Recoder {
     }
 
     // The whole pieces, each times its number, added up.
+    #[tactic(auto, using(crate::proofs::Outcomes::recode_refused), unfolding(crate::specs::Entries::recode_refusal))]
     pub fn recode_with_buf(
         self,
         f: Field,

@@ -1,45 +1,21 @@
 -- `encoder::Encoder::code_with_buf` meets its contract: the tests are the order's, the vector is copied to the front, and its payload combined behind it.
 -- Assumes nothing.
-use Rattle.std.proofs.Common.{◌≡◌, false, not, ℕ, ◌+◌, ◌*◌, ◌≤◌, List, ◌++◌, length, drop, arith, sym, ap, ap₂, subst, ◌∙◌, eq-eqb, ne_eqb}
+use Rattle.std.proofs.Common.{◌≡◌, false, not, ℕ, ◌+◌, ◌*◌, ◌≤◌, List, ◌++◌, length, drop, arith, sym, ap, ap₂, subst, ◌∙◌, eq-eqb}
 use lib.Seq.{take-length}
 use Rattle.field.specs.FieldOf.{field_of}
 use Rattle.linear.specs.Buffer.{rows_of}
 use Rattle.linear.specs.Pieces.{combine, encode}
-use Rattle.block.proofs.Chosen.{refuses, accepts}
+use Rattle.block.proofs.Chosen.{accepts}
 use Rattle.rows.proofs.Combined.{combined}
 use Rattle.encoder.specs.Entries.{bad_state, code_whole_refusal}
 use Rattle.encoder.proofs.State.{held}
 use Rattle.encoder.proofs.Whole.{payload, whole}
-use Rattle.encoder.proofs.Outcomes.{code_whole_refused, code_whole_made}
+use Rattle.encoder.proofs.Outcomes.{code_whole_made}
 use Rattle.encoder.proofs.Encoder.code_with_buf.Goals as goal
-
-pub returns-then-not-holds : goal.returns-then-not-holds
-unfolding code_whole_refusal
-returns-then-not-holds c =
-    code_whole_refused _ (omega arith) (simp (refuses (bad_state c.args.self (length c.args.block.now)) c.holds.ensures (ap not c.if-not-holds.true)))
 
 pub overflow_add-k : goal.overflow_add-k
 overflow_add-k c =
     omega (arith, (held c.args.self (length c.args.block.now) (accepts (bad_state c.args.self (length c.args.block.now)) c.holds.ensures (ap not c.if-not-holds.false))).sizes)
-
-pub returns-then-full_coded_piece-k : goal.returns-then-full_coded_piece-k
-unfolding code_whole_refusal
-returns-then-full_coded_piece-k c =
-    code_whole_refused _ (omega arith)
-    (simp (
-      accepts (bad_state c.args.self (length c.args.block.now)) c.holds.ensures (ap not c.if-not-holds.false),
-      ne_eqb _ _ c.if-full_coded_piece-k.true,
-    ))
-
-pub returns-then-coding_vector-k : goal.returns-then-coding_vector-k
-unfolding code_whole_refusal
-returns-then-coding_vector-k c =
-    code_whole_refused _ (omega arith)
-    (simp (
-      accepts (bad_state c.args.self (length c.args.block.now)) c.holds.ensures (ap not c.if-not-holds.false),
-      eq-eqb _ _ c.if-full_coded_piece-k.false,
-      ne_eqb _ _ c.if-coding_vector-k.true,
-    ))
 
 pub returns : goal.returns
 unfolding code_whole_refusal encode

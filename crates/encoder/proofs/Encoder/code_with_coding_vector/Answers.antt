@@ -1,39 +1,15 @@
 -- `encoder::Encoder::code_with_coding_vector` meets its contract: the tests are the order's, and `combine` has the rows that it needs.
 -- Assumes nothing.
-use Rattle.std.proofs.Common.{◌≡◌, false, not, ℕ, ◌*◌, ◌≤◌, length, arith, sym, ap, subst, ◌∙◌, eq-eqb, ne_eqb}
+use Rattle.std.proofs.Common.{◌≡◌, false, not, ℕ, ◌*◌, ◌≤◌, length, sym, ap, subst, ◌∙◌, eq-eqb}
 use Rattle.field.specs.FieldOf.{field_of}
 use Rattle.linear.specs.Buffer.{rows_of}
 use Rattle.linear.specs.Pieces.{combine}
-use Rattle.block.proofs.Chosen.{refuses, accepts}
+use Rattle.block.proofs.Chosen.{accepts}
 use Rattle.rows.proofs.Combined.{combined}
 use Rattle.encoder.specs.Entries.{bad_state, code_refusal}
 use Rattle.encoder.proofs.State.{held}
-use Rattle.encoder.proofs.Outcomes.{code_refused, code_made}
+use Rattle.encoder.proofs.Outcomes.{code_made}
 use Rattle.encoder.proofs.Encoder.code_with_coding_vector.Goals as goal
-
-pub returns-then-not-holds : goal.returns-then-not-holds
-unfolding code_refusal
-returns-then-not-holds c =
-    code_refused _ (omega arith) (simp (refuses (bad_state c.args.self (length c.args.block.now)) c.holds.ensures (ap not c.if-not-holds.true)))
-
-pub returns-then-coding_vector-self : goal.returns-then-coding_vector-self
-unfolding code_refusal
-returns-then-coding_vector-self c =
-    code_refused _ (omega arith)
-    (simp (
-      accepts (bad_state c.args.self (length c.args.block.now)) c.holds.ensures (ap not c.if-not-holds.false),
-      ne_eqb _ _ c.if-coding_vector-self.true,
-    ))
-
-pub returns-then-coded_data-self : goal.returns-then-coded_data-self
-unfolding code_refusal
-returns-then-coded_data-self c =
-    code_refused _ (omega arith)
-    (simp (
-      accepts (bad_state c.args.self (length c.args.block.now)) c.holds.ensures (ap not c.if-not-holds.false),
-      eq-eqb _ _ c.if-coding_vector-self.false,
-      ne_eqb _ _ c.if-coded_data-self.true,
-    ))
 
 pub returns : goal.returns
 unfolding code_refusal

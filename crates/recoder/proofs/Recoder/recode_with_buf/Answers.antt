@@ -1,39 +1,15 @@
 -- `recoder::Recoder::recode_with_buf` meets its contract: the tests are the order's, and `combine` has the whole pieces that it needs.
 -- Assumes nothing.
-use Rattle.std.proofs.Common.{◌≡◌, false, not, ℕ, ◌*◌, ◌≤◌, length, arith, sym, ap, subst, ◌∙◌, eq-eqb, ne_eqb}
+use Rattle.std.proofs.Common.{◌≡◌, false, not, ℕ, ◌*◌, ◌≤◌, length, sym, ap, subst, ◌∙◌, eq-eqb}
 use Rattle.field.specs.FieldOf.{field_of}
 use Rattle.linear.specs.Buffer.{rows_of}
 use Rattle.linear.specs.Pieces.{combine, recode}
-use Rattle.block.proofs.Chosen.{refuses, accepts}
+use Rattle.block.proofs.Chosen.{accepts}
 use Rattle.rows.proofs.Combined.{combined}
 use Rattle.recoder.specs.Entries.{bad_state, recode_refusal}
 use Rattle.recoder.proofs.State.{held}
-use Rattle.recoder.proofs.Outcomes.{recode_refused, recode_made}
+use Rattle.recoder.proofs.Outcomes.{recode_made}
 use Rattle.recoder.proofs.Recoder.recode_with_buf.Goals as goal
-
-pub returns-then-not-holds : goal.returns-then-not-holds
-unfolding recode_refusal
-returns-then-not-holds c =
-    recode_refused _ (omega arith) (simp (refuses (bad_state c.args.self (length c.args.pieces.now)) c.holds.ensures (ap not c.if-not-holds.true)))
-
-pub returns-then-full_recoded_piece-self : goal.returns-then-full_recoded_piece-self
-unfolding recode_refusal
-returns-then-full_recoded_piece-self c =
-    recode_refused _ (omega arith)
-    (simp (
-      accepts (bad_state c.args.self (length c.args.pieces.now)) c.holds.ensures (ap not c.if-not-holds.false),
-      ne_eqb _ _ c.if-full_recoded_piece-self.true,
-    ))
-
-pub returns-then-recoding_vector-self : goal.returns-then-recoding_vector-self
-unfolding recode_refusal
-returns-then-recoding_vector-self c =
-    recode_refused _ (omega arith)
-    (simp (
-      accepts (bad_state c.args.self (length c.args.pieces.now)) c.holds.ensures (ap not c.if-not-holds.false),
-      eq-eqb _ _ c.if-full_recoded_piece-self.false,
-      ne_eqb _ _ c.if-recoding_vector-self.true,
-    ))
 
 pub returns : goal.returns
 unfolding recode_refusal recode
