@@ -116,7 +116,7 @@ stale() {
     local words crate source
     [ -f "$1" ] || return 0
     while read -ra words; do
-        [ "${words[0]-}" != "$2:" ] || break
+        [ "${words[0]-}" != "$2:" ] && [ "${words[0]-}" != "$2" ] || break
     done <"$top/crates.txt"
     [ ! "$top/crates.txt" -nt "$1" ] || return 0
     for crate in "$2" "${words[@]:1}"; do
@@ -127,12 +127,20 @@ stale() {
     return 1
 }
 
-# prove WORDS..: rt WORDS.., of which each crate that it proves is told as it comes, and the end of the rest where it fails
+# prove VERB CRATE: rt VERB in the crate's folder, of which each crate that it proves is told as it comes, and the end of the rest where it fails.
+# What it builds is in the crate's folder out/ then.
 prove() {
-    local line said=() status
-    (cd "$top" && exec rt "$@" </dev/null 2>&1) | while IFS= read -r line; do
+    local line crate='' said=() status
+    (cd "$top/crates/$2" && exec rt "$1" </dev/null 2>&1) | while IFS= read -r line; do
         said+=("$line")
-        case $line in 'rt: '*' proved ('*' s)') note "building: ${line#rt: }" ;; esac
+        case $line in
+        'crate '*' checked=0') crate='' ;;
+        'crate '*': '*) crate=${line#crate } crate=${crate%%:*} ;;
+        logic=proved*)
+            [ -z "$crate" ] || note "building: $crate proved"
+            crate=''
+            ;;
+        esac
     done
     status=${PIPESTATUS[0]}
     [ "$status" = 0 ] || printf '%s\n' "${said[@]}" | tail -n 20 >&2
