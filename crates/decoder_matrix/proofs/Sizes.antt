@@ -46,9 +46,19 @@ module _ (m : DecoderMatrix) (n : ℕ) where
   pub row_in : sizes_fit m n ≡ true → (i : ℕ) → i < m.rows → i * m.cols + m.cols ≤ n
   row_in e i h = omega (arith, (sized e).held, row_end m.cols h)
 
-  -- row i has a byte i
+  -- a row has a byte i for each row i, and it lies within the buffer
   pub column_in : sizes_fit m n ≡ true → (i : ℕ) → i < m.rows → i < m.cols
   column_in e i h = omega (arith, sized e)
+
+  pub byte_in : sizes_fit m n ≡ true → (j i : ℕ) → j < m.rows → i < m.rows → j * m.cols + i < n
+  byte_in e j i h k = omega (arith, row_in e j h, column_in e i k)
+
+  -- the coefficients of a row held, and the room for k rows
+  pub coefficients_in : sizes_fit m n ≡ true → (j : ℕ) → j < m.rows → j * m.cols + k_of m ≤ n
+  coefficients_in e j h = omega (arith, row_in e j h, sized e)
+
+  pub room_in : sizes_fit m n ≡ true → k_of m * m.cols ≤ n
+  room_in e = (sized e).room
 
   pub fitting : m.rows ≤ k_of m → k_of m ≤ m.cols → sizes_fit m n ≡ leb (k_of m * m.cols) n
   unfolding sizes_fit

@@ -39,6 +39,7 @@ struct Clearing {
 
 impl DecoderMatrix {
     // The row stored behind those held.
+    #[tactic(auto, using(crate::proofs::Sizes::place_in))]
     pub fn add_row(mut self, elements: &mut [u8], row: &[u8]) -> Matrix
         ensures { RowAdded self elements.old row.now result elements.new }
     {
@@ -62,6 +63,7 @@ impl DecoderMatrix {
     }
 
     // Exchanges two rows held.
+    #[tactic(auto, using(crate::proofs::Sizes::row_in))]
     pub fn swap_rows(self, elements: &mut [u8], row1_idx: usize, row2_idx: usize) -> Answer
         ensures { Swapped self elements.old row1_idx row2_idx result elements.new }
     {
@@ -104,6 +106,7 @@ impl DecoderMatrix {
     }
 
     // Rule 1.
+    #[tactic(auto, using(crate::proofs::Sizes::row_in, crate::proofs::Sizes::byte_in))]
     fn clean_forward(self, f: Field, elements: &mut [u8])
         requires { sizes_fit self (length elements.old) ≡ true }
         ensures { Applied (forward (field_of f) self.rows) self elements.old elements.new }
@@ -128,6 +131,7 @@ impl DecoderMatrix {
     }
 
     // Rule 1 at i, once its pivot is in place.
+    #[tactic(auto, using(crate::proofs::Sizes::row_in, crate::proofs::Sizes::byte_in))]
     fn clear_below(self, f: Field, elements: &mut [u8], i: usize)
         requires elements_value { sizes_fit self (length elements.old) ≡ true }
         requires i_lt_rows { (i < self.rows) × (entry (rows_in self elements.old) i i ≡ 0 → ⊥) }
@@ -149,6 +153,7 @@ impl DecoderMatrix {
     }
 
     // Adds to each row the multiple of the pivot row that clears its column. A row whose entry is 0 already is left alone.
+    #[tactic(auto, using(crate::proofs::Sizes::row_in, crate::proofs::Sizes::byte_in))]
     fn clear_rows(self, f: Field, elements: &mut [u8], c: Clearing)
         requires elements_value { sizes_fit self (length elements.old) ≡ true }
         requires clears { Clears (field_of f) self elements.old c }
@@ -189,6 +194,7 @@ impl DecoderMatrix {
     }
 
     // Rule 2 at i.
+    #[tactic(auto, using(crate::proofs::Sizes::row_in, crate::proofs::Sizes::byte_in))]
     fn clear_above(self, f: Field, elements: &mut [u8], i: usize)
         requires elements_value { sizes_fit self (length elements.old) ≡ true }
         requires i_lt_rows { i < self.rows }
@@ -211,6 +217,7 @@ impl DecoderMatrix {
     }
 
     // Rule 3: the rows kept are moved to the front in their order, and the area behind them is cleared.
+    #[tactic(auto, using(crate::proofs::Sizes::coefficients_in, crate::proofs::Sizes::room_in))]
     fn remove_zero_rows(mut self, elements: &mut [u8]) -> DecoderMatrix
         requires { sizes_fit self (length elements.old) ≡ true }
         ensures value { result ≡ with_rows self (length (drop_empty (k_of self) (rows_in self elements.old))) }
@@ -256,6 +263,7 @@ impl DecoderMatrix {
     }
 
     // Row `from` copied over row `to`, which is before it or the same.
+    #[tactic(auto, using(crate::proofs::Sizes::row_in))]
     fn move_row(self, elements: &mut [u8], from: usize, to: usize)
         requires elements_value { sizes_fit self (length elements.old) ≡ true }
         requires to_le_from { (to ≤ from) × (from < self.rows) }

@@ -6,7 +6,7 @@ use Rattle.linear.proofs.Buffer.{length_rows_of, entry_at}
 use Rattle.linear.proofs.Steps.{swap_first}
 use Rattle.decoder_matrix.specs.declared.DecoderMatrix.{DecoderMatrix}
 use Rattle.decoder_matrix.specs.Matrix.{sizes_fit, rows_in}
-use Rattle.decoder_matrix.proofs.Sizes.{row_in, column_in}
+use Rattle.decoder_matrix.proofs.Sizes.{column_in}
 use Rattle.decoder_matrix.proofs.Answered.{swapped_rows}
 use Rattle.decoder_matrix.proofs.Passes.{search_ends, search_goes_on, search_finds, forward_skips, forward_clears}
 use Rattle.decoder_matrix.proofs.DecoderMatrix.clean_forward.Goals as goal
@@ -37,25 +37,6 @@ columns-preserved-then-n-j c =
       omega arith,
       l.invariant.1,
       record { rows = u.rows ∙ sym (forward_skips 𝓕 l.i _ none_left); rest = u.rest },
-    )
-
-pub overflow_mul-a : goal.overflow_mul-a
-overflow_mul-a c = omega (arith, row_in c.args.self (length c.args.elements.now) c.requires c.loop-j.j c.if-n-j.false)
-
-pub overflow_add-a : goal.overflow_add-a
-overflow_add-a c =
-    omega (
-      arith,
-      row_in c.args.self (length c.args.elements.now) c.requires c.loop-j.j c.if-n-j.false,
-      column_in c.args.self (length c.args.elements.now) c.requires c.columns.i c.columns-test.true,
-    )
-
-pub bounds-elements-a : goal.bounds-elements-a
-bounds-elements-a c =
-    omega (
-      arith,
-      row_in c.args.self (length c.args.elements.now) c.requires c.loop-j.j c.if-n-j.false,
-      column_in c.args.self (length c.args.elements.now) c.requires c.columns.i c.columns-test.true,
     )
 
 pub loop-j-preserved : goal.loop-j-preserved

@@ -4,31 +4,9 @@ use mathlib.Core.Logic.{inr}
 use native.Mathlib.Nat.{add-sub_cancel_left}
 use Rattle.field.specs.FieldOf.{field_of}
 use Rattle.decoder_matrix.specs.Matrix.{rows_in}
-use Rattle.decoder_matrix.proofs.Sizes.{sized, row_in, column_in, pivot_byte}
+use Rattle.decoder_matrix.proofs.Sizes.{sized, pivot_byte}
 use Rattle.decoder_matrix.proofs.Passes.{inverse_byte, inverse_nonzero, inverse_zero, backward_skips, above_done}
 use Rattle.decoder_matrix.proofs.DecoderMatrix.clear_above.Goals as goal
-
-pub overflow_mul-a : goal.overflow_mul-a
-overflow_mul-a c = omega (arith, row_in c.args.self (length c.args.elements.now) c.requires.elements_value c.args.i c.requires.i_lt_rows)
-
-pub overflow_add-e : goal.overflow_add-e
-overflow_add-e c = omega (arith, row_in c.args.self (length c.args.elements.now) c.requires.elements_value c.args.i c.requires.i_lt_rows)
-
-pub overflow_add-a : goal.overflow_add-a
-overflow_add-a c =
-    omega (
-      arith,
-      row_in c.args.self (length c.args.elements.now) c.requires.elements_value c.args.i c.requires.i_lt_rows,
-      column_in c.args.self (length c.args.elements.now) c.requires.elements_value c.args.i c.requires.i_lt_rows,
-    )
-
-pub bounds-elements-a : goal.bounds-elements-a
-bounds-elements-a c =
-    omega (
-      arith,
-      row_in c.args.self (length c.args.elements.now) c.requires.elements_value c.args.i c.requires.i_lt_rows,
-      column_in c.args.self (length c.args.elements.now) c.requires.elements_value c.args.i c.requires.i_lt_rows,
-    )
 
 pub returns-in_default : goal.returns-in_default
 returns-in_default c =
@@ -47,10 +25,6 @@ clear_rows-requires-clause-clears c =
       outside = inr (omega arith);
       inverse = inverse_byte _ _ _ (sym c.in-Byte.ensures) ∙ ap (field_of c.args.f).inv byte;
     }
-
-pub slice_bounds-inplace_mul_vec_by_scalar-end : goal.slice_bounds-inplace_mul_vec_by_scalar-end
-slice_bounds-inplace_mul_vec_by_scalar-end c =
-    omega (arith, row_in c.args.self (length c.args.elements.now) c.requires.elements_value c.args.i c.requires.i_lt_rows, c.clear_rows.auto.elements)
 
 pub returns : goal.returns
 returns c =

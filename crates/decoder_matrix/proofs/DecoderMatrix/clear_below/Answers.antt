@@ -1,32 +1,13 @@
 -- `decoder_matrix::DecoderMatrix::clear_below` meets its contract: the rows below row i are those up to the last held.
-use Rattle.std.proofs.Common.{length, arith, sym, ap, ◌∙◌}
+use Rattle.std.proofs.Common.{arith, sym, ap, ◌∙◌}
 use mathlib.Core.Logic.{inl}
 use Rattle.field.specs.FieldOf.{field_of}
 use Rattle.linear.proofs.Buffer.{length_rows_of}
 use Rattle.decoder_matrix.specs.Matrix.{rows_in}
-use Rattle.decoder_matrix.proofs.Sizes.{row_in, column_in, pivot_byte}
+use Rattle.decoder_matrix.proofs.Sizes.{pivot_byte}
 use Rattle.decoder_matrix.proofs.Range.{range_below}
 use Rattle.decoder_matrix.proofs.Passes.{inverse_byte, inverse_zero}
 use Rattle.decoder_matrix.proofs.DecoderMatrix.clear_below.Goals as goal
-
-pub overflow_mul-a : goal.overflow_mul-a
-overflow_mul-a c = omega (arith, row_in c.args.self (length c.args.elements.now) c.requires.elements_value c.args.i c.requires.i_lt_rows.0)
-
-pub overflow_add-a : goal.overflow_add-a
-overflow_add-a c =
-    omega (
-      arith,
-      row_in c.args.self (length c.args.elements.now) c.requires.elements_value c.args.i c.requires.i_lt_rows.0,
-      column_in c.args.self (length c.args.elements.now) c.requires.elements_value c.args.i c.requires.i_lt_rows.0,
-    )
-
-pub bounds-elements-a : goal.bounds-elements-a
-bounds-elements-a c =
-    omega (
-      arith,
-      row_in c.args.self (length c.args.elements.now) c.requires.elements_value c.args.i c.requires.i_lt_rows.0,
-      column_in c.args.self (length c.args.elements.now) c.requires.elements_value c.args.i c.requires.i_lt_rows.0,
-    )
 
 pub returns-in_default : goal.returns-in_default
 returns-in_default c =

@@ -9,9 +9,6 @@ use Rattle.decoder_matrix.proofs.Sizes.{sized, row_in, column_in}
 use Rattle.decoder_matrix.proofs.Range.{range_starts, range_ends, turn_skips, turn_adds}
 use Rattle.decoder_matrix.proofs.DecoderMatrix.clear_rows.Goals as goal
 
-pub overflow_mul-p : goal.overflow_mul-p
-overflow_mul-p c = omega (arith, row_in c.args.self (length c.args.elements.now) c.requires.elements_value c.args.c.pivot c.requires.clears.row)
-
 pub loop-j-init : goal.loop-j-init
 loop-j-init c = (
   omega arith,
@@ -19,25 +16,6 @@ loop-j-init c = (
   refl,
   λ n top hn w e. range_starts (field_of c.args.f) c.args.self.cols n c.args.c.from c.args.c.to c.args.c.pivot c.args.elements.now c.requires.clears.order top,
 )
-
-pub overflow_mul-a : goal.overflow_mul-a
-overflow_mul-a c = omega (arith, row_in c.args.self (length c.args.elements.now) c.requires.elements_value c.loop-j.j (omega (arith, c.requires.clears.held)))
-
-pub overflow_add-x : goal.overflow_add-x
-overflow_add-x c =
-    omega (
-      arith,
-      row_in c.args.self (length c.args.elements.now) c.requires.elements_value c.loop-j.j (omega (arith, c.requires.clears.held)),
-      column_in c.args.self (length c.args.elements.now) c.requires.elements_value c.args.c.pivot c.requires.clears.row,
-    )
-
-pub bounds-elements-a : goal.bounds-elements-a
-bounds-elements-a c =
-    omega (
-      arith,
-      row_in c.args.self (length c.args.elements.now) c.requires.elements_value c.loop-j.j (omega (arith, c.requires.clears.held)),
-      column_in c.args.self (length c.args.elements.now) c.requires.elements_value c.args.c.pivot c.requires.clears.row,
-    )
 
 pub loop-j-preserved-then-x-eq0 : goal.loop-j-preserved-then-x-eq0
 loop-j-preserved-then-x-eq0 c =

@@ -8,7 +8,7 @@ use Rattle.linear.proofs.Buffer.{row_at_lem, length_part}
 use Rattle.linear.proofs.Flat.{further, cleared_behind}
 use Rattle.decoder_matrix.specs.declared.DecoderMatrix.{DecoderMatrix}
 use Rattle.decoder_matrix.specs.Matrix.{k_of, sizes_fit, rows_in, with_rows}
-use Rattle.decoder_matrix.proofs.Sizes.{sized, row_in}
+use Rattle.decoder_matrix.proofs.Sizes.{sized}
 use Rattle.decoder_matrix.proofs.Keeping.{Keeping, found_row, turn_drops, turn_keeps, all_kept}
 use Rattle.decoder_matrix.proofs.DecoderMatrix.remove_zero_rows.Goals as goal
 
@@ -22,24 +22,9 @@ module _ (m : DecoderMatrix) (n : ℕ) (e : sizes_fit m n ≡ true) where
       ∙ sym (take-take (k_of m) m.cols (drop (j * m.cols) now) (sized m n e).wide)
       ∙ ap (take (k_of m)) (sym (row_at_lem m.cols m.rows j now h) ∙ found_row t h))
 
-  -- the rows kept end within the k rows that there is room for
-  kept_end : (kept : ℕ) → kept ≤ m.rows → kept * m.cols ≤ k_of m * m.cols
-  kept_end kept h = let few : kept ≤ k_of m = omega (arith, (sized m n e).few) in mul-le-mul_right m.cols few
-
 pub loop-j-init : goal.loop-j-init
 unfolding drop_empty
 loop-j-init c = (omega arith, refl, record { few = omega arith; front = refl; later = refl; rest = refl })
-
-pub overflow_mul-a : goal.overflow_mul-a
-overflow_mul-a c = omega (arith, row_in c.args.self (length c.args.elements.now) c.requires c.loop-j.j c.loop-j-test.true)
-
-pub overflow_add-e : goal.overflow_add-e
-overflow_add-e c =
-    omega (arith, row_in c.args.self (length c.args.elements.now) c.requires c.loop-j.j c.loop-j-test.true, (sized c.args.self (length c.args.elements.now) c.requires).wide)
-
-pub slice_bounds-is_zero-end : goal.slice_bounds-is_zero-end
-slice_bounds-is_zero-end c =
-    omega (arith, row_in c.args.self (length c.args.elements.now) c.requires c.loop-j.j c.loop-j-test.true, (sized c.args.self (length c.args.elements.now) c.requires).wide, c.loop-j.invariant.1)
 
 pub loop-j-preserved-then-is_zero : goal.loop-j-preserved-then-is_zero
 loop-j-preserved-then-is_zero c =
@@ -56,23 +41,14 @@ loop-j-preserved c =
 
 pub overflow_mul-a-2 : goal.overflow_mul-a-2
 overflow_mul-a-2 c =
-    omega (
-      arith,
-      (sized c.args.self (length c.args.elements.now) c.requires).room,
-      kept_end c.args.self (length c.args.elements.now) c.requires c.loop-j.kept (omega (arith, c.loop-j.invariant.2.few)),
-    )
-
-pub overflow_mul-e : goal.overflow_mul-e
-overflow_mul-e c = omega (arith, (sized c.args.self (length c.args.elements.now) c.requires).room)
+    let few : c.loop-j.kept ≤ k_of c.args.self = omega (arith, sized c.args.self (length c.args.elements.now) c.requires, c.loop-j.invariant.2.few) in
+    omega (arith, sized c.args.self (length c.args.elements.now) c.requires, mul-le-mul_right c.args.self.cols few)
 
 pub slice_bounds-clear-count : goal.slice_bounds-clear-count
-slice_bounds-clear-count c = kept_end c.args.self (length c.args.elements.now) c.requires c.loop-j.kept (omega (arith, c.loop-j.invariant.2.few))
+slice_bounds-clear-count c = mul-le-mul_right c.args.self.cols (omega (arith, sized c.args.self (length c.args.elements.now) c.requires, c.loop-j.invariant.2.few))
 
 pub slice_bounds-clear-start : goal.slice_bounds-clear-start
-slice_bounds-clear-start c = kept_end c.args.self (length c.args.elements.now) c.requires c.loop-j.kept (omega (arith, c.loop-j.invariant.2.few))
-
-pub slice_bounds-clear-end : goal.slice_bounds-clear-end
-slice_bounds-clear-end c = omega (arith, (sized c.args.self (length c.args.elements.now) c.requires).room, c.loop-j.invariant.1)
+slice_bounds-clear-start c = mul-le-mul_right c.args.self.cols (omega (arith, sized c.args.self (length c.args.elements.now) c.requires, c.loop-j.invariant.2.few))
 
 pub returns-clause-value : goal.returns-clause-value
 returns-clause-value c =
@@ -88,11 +64,10 @@ returns-clause-elements_after c =
     let old = c.args.elements.now in
     let s = sized m (length old) c.requires in
     let e : l.j ≡ m.rows = omega arith in
-    let few : l.kept ≤ m.rows = omega (arith, l.invariant.2.few) in
-    let top : l.kept ≤ k_of m = omega (arith, s.few) in
+    let top : l.kept ≤ k_of m = omega (arith, s, l.invariant.2.few) in
     let all = all_kept m.cols m.rows (k_of m) l.kept old l.elements (rw e at l.invariant.2) in
     let x : ℕ = k_of m * m.cols - l.kept * m.cols in
-    let whole : l.kept * m.cols + x ≡ k_of m * m.cols = omega (arith, kept_end m (length old) c.requires l.kept few) in
+    let whole : l.kept * m.cols + x ≡ k_of m * m.cols = omega (arith, mul-le-mul_right m.cols top) in
     let behind = further (m.rows * m.cols) (k_of m * m.cols) l.elements old (mul-le-mul_right m.cols s.few) l.invariant.2.rest in
     let inside : l.kept * m.cols + x ≤ length l.elements = omega (arith, whole, s.room, l.invariant.1) in
     cleared_behind m.cols (k_of m) l.kept x old l.elements top all.0 all.1 behind whole
