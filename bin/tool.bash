@@ -163,10 +163,12 @@ build() {
     fi
     if stale "$program" "$name"; then
         note "proving and building it; the first time takes minutes"
-        prove check "$name" || die "it could not be built"
-        [ -f "$program" ] || die "it is not a program"
-        # what did not have to be built again counts as built now
-        touch "$program"
+        # rt run proves and builds it, and runs it once, on no input
+        prove run "$name" || die "it could not be built"
+        [ -f "$top/crates/$name/out/$name" ] || die "it is not a program"
+        mkdir -p "${program%/*}"
+        # in one step, as another call may be running it
+        cp "$top/crates/$name/out/$name" "$program.new" && mv "$program.new" "$program" || die "it could not be put in its place"
     fi
     exec {lock}<&-
 }
@@ -212,6 +214,13 @@ run() {
         exit "$status"
     fi
     read -t 0 -u "$told" && read -r -n 1 -u "$told" digit
-    case $digit in [012]) exit "$digit" ;; esac
+    case $digit in
+    [012]) exit "$digit" ;;
+    3) # nobody reads what it writes: the end that the signal makes, but where that is ignored
+        (kill -s PIPE "$BASHPID")
+        [ $? != 141 ] || exit 141
+        die "standard output: Broken pipe"
+        ;;
+    esac
     die "it ended without a word on how"
 }

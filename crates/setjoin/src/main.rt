@@ -12,13 +12,17 @@ use field::Field;
 use joiner::{BLOCK_LEN, Ending, Fed, Joiner, MATRIX_LEN, TEXT_LEN};
 use reader::INPUT_LEN;
 use std::fs::OpenOptions;
-use std::io::{IsTerminal, Print, Read, Write};
+use std::io;
+use std::io::{ErrorKind, IsTerminal, Print, Read, Write};
 
 mod call;
 mod failure;
 
 // How much text is kept before it is written out.
 const OUT_LEN: usize = 65536;
+
+// The status where nobody reads what is written.
+const UNREAD: u8 = 3;
 
 // What is written: the listing, each line as soon as it is known, or the data alone.
 #[derive(Clone, Copy)]
@@ -67,10 +71,19 @@ fn write(rt: &HostRuntime, text: &[u8]) -> bool {
     match Print::write_all(&rt.stdout(), text) {
         Ok(()) => true,
         Err(e) => {
-            failure::told(rt, "setjoin: standard output", e);
+            unwritten(rt, e);
             false
         }
     }
+}
+
+// A write that failed is said to the user; that nobody reads any more is reported to the command, which ends as the signal for that ends it.
+fn unwritten(rt: &HostRuntime, e: io::Error) {
+    if matches!(e.kind(), ErrorKind::BrokenPipe) && call::asks_status(rt) {
+        tell(rt, UNREAD);
+        return;
+    }
+    failure::told(rt, "setjoin: standard output", e);
 }
 
 // To standard error, where that can be written to.
@@ -231,7 +244,7 @@ fn answer(rt: &HostRuntime, call: Call) -> u8 {
 // The status, as a digit on descriptor 3.
 fn tell(rt: &HostRuntime, status: u8) {
     if let Ok(mut to) = OpenOptions::new().append(true).open(rt, "/dev/fd/3") {
-        let _told = to.write_all(&[b'0' + status % 3]).is_ok();
+        let _told = to.write_all(&[b'0' + status % 4]).is_ok();
     }
 }
 
