@@ -1,4 +1,4 @@
--- The paper's 'Numbers worked by hand', the lines marked P: one table, about the definitions that the contracts cite. p5, P6 and P13 are for
+-- The paper's 'Numbers worked by hand', the lines marked P: one table, about the definitions that the contracts cite. P5, P6 and P13 are for
 -- every marker; the field is that of FIPS 197.
 use Rattle.std.specs.Prelude.{◌≡◌, ◌≢◌, List, [], ◌∷◌, ℕ, ◌-◌, get_or, take}
 use Rattle.answers.specs.Number.{number_of}
