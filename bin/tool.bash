@@ -168,7 +168,7 @@ build() {
         [ -f "$top/crates/$name/out/$name" ] || die "it is not a program"
         mkdir -p "${program%/*}"
         # in one step, as another call may be running it
-        cp "$top/crates/$name/out/$name" "$program.new" && mv "$program.new" "$program" || die "it could not be put in its place"
+        cp "$top/crates/$name/out/$name" "$program.$$" && mv "$program.$$" "$program" || die "it could not be put in its place"
     fi
     exec {lock}<&-
 }
@@ -182,7 +182,7 @@ command_words() {
     machine=$(uname -m)
     [ "$machine" != x86_64 ] || return 0
     guide=$(rt doc) || die "the tool 'rt' is not to be found"
-    tools=$(dirname "$(dirname "$guide")")/on/$machine/toolchain
+    tools=$(dirname "$guide")/on/$machine/toolchain
     [ -x "$tools/bin/qemu-x86_64" ] || die "the kit has no emulator for this machine"
     words=("$tools/bin/qemu-x86_64" "$tools/lib/ld-linux-x86-64.so.2" --library-path "$tools/lib" "$program")
 }

@@ -1,6 +1,6 @@
 /*
  * The static library of the port for C: field, rows, encoder, recoder, decoder, piece stream and stored form. Build it with
- * `library/build` and link target/staticlib/librlnc.a (x86-64 Linux). It keeps no state, allocates nothing and calls nothing but memset and memmove.
+ * `library/build` and link target/staticlib/librlnc.a (x86-64-v2 Linux). It keeps no state, allocates nothing and calls nothing but memset and memmove.
  *
  * k is the piece count, L the piece length in bytes, F = k + L the length of a whole piece: k coefficients, then L payload bytes.
  *

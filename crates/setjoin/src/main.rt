@@ -77,18 +77,31 @@ fn write(rt: &HostRuntime, text: &[u8]) -> bool {
     }
 }
 
-// A write that failed is said to the user; that nobody reads any more is reported to the command, which ends as the signal for that ends it.
+// A write that failed is said to the user, but where nobody reads any more.
 fn unwritten(rt: &HostRuntime, e: io::Error) {
+    if !left_alone(rt, &e) {
+        failure::told(rt, "setjoin: standard output", e);
+    }
+}
+
+// Whether nobody reads any more: the command then ends as the signal for that ends it, and is told so.
+fn left_alone(rt: &HostRuntime, e: &io::Error) -> bool {
     if matches!(e.kind(), ErrorKind::BrokenPipe) && call::asks_status(rt) {
         tell(rt, UNREAD);
-        return;
+        return true;
     }
-    failure::told(rt, "setjoin: standard output", e);
+    false
 }
 
 // To standard error, where that can be written to.
 fn complain(rt: &HostRuntime, text: &[u8]) -> bool {
-    Print::write_all(&rt.stderr(), text).is_ok()
+    match Print::write_all(&rt.stderr(), text) {
+        Ok(()) => true,
+        Err(e) => {
+            left_alone(rt, &e);
+            false
+        }
+    }
 }
 
 // Writes the text out where the longest of a turn has no room behind it, or at once.
@@ -248,7 +261,7 @@ fn tell(rt: &HostRuntime, status: u8) {
     }
 }
 
-// A program of this kind has no status: where the first word asks for it, it goes to descriptor 3.
+// Its own status is 0: where the first word asks for it, that of the call goes to descriptor 3.
 fn main(rt: HostRuntime) {
     if !call::asks_status(&rt) {
         answer(&rt, call::read(&rt, 1));

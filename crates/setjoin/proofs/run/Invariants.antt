@@ -1,4 +1,4 @@
--- `setjoin::run` is safe and ends: the text that waits lies in its buffer and leaves room for a turn, and the turns are counted down.
+-- `setjoin::run` is safe and ends: the text that waits lies in its buffer, and the turns are counted down.
 use Rattle.std.proofs.Common.{◌≤◌, length}
 use Rattle.setjoin.proofs.run.Given as goal
 
