@@ -19,7 +19,6 @@ use Rattle.linear.proofs.Flat.{rows_flat, length_flat}
 use Rattle.linear.proofs.Sizes.{take_piece_sizes}
 use Rattle.decoder.specs.declared.Decoder.{Decoder}
 use Rattle.decoder.specs.declared.Made.TheVariants as new
-use Rattle.decoder.specs.declared.Taken.TheVariants as piece
 use Rattle.decoder.specs.Records.{k_of, l_of, f_of, rows_in, taken_by, held_rows}
 use Rattle.decoder.specs.Entries.{NewDecoder, take_refusal, rows_after, after}
 use Rattle.demands.specs.History.{History, made, useful, not_useful, resumed, refused}

@@ -24,7 +24,6 @@ use Rattle.block.specs.Padding.{Breaks, marker, Carries}
 use Rattle.block.specs.Reading.{last_marker, read_at, reading, answer_of}
 use Rattle.block.proofs.Reading.{reads_data, reads_broken}
 use Rattle.decoder.specs.declared.Decoder.{Decoder}
-use Rattle.decoder.specs.declared.Taken.{Taken}
 use Rattle.decoder.specs.declared.Taken.TheVariants as piece
 use Rattle.decoder.specs.Records.{rows_in, sound, bad_state, held_rows}
 use Rattle.decoder.specs.Answers.{taken_number, complete_values}

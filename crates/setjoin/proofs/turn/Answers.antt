@@ -1,5 +1,5 @@
 -- `setjoin::turn` is safe: what is wanted fits the input buffer.
-use Rattle.std.proofs.Common.{◌≤◌, length, arith, sym}
+use Rattle.std.proofs.Common.{arith, sym}
 use Rattle.std.proofs.lemmas.List.{length-take-le}
 use Rattle.setjoin.proofs.Within.{want_short}
 use Rattle.setjoin.proofs.turn.Goals as goal
