@@ -1,11 +1,12 @@
-// What is said of a read or a write that failed.
+// The words for a read or a write that failed.
 
 use arrayvec::ArrayString;
 use std::fmt::Write;
 use std::io;
 
-// The longest reason that is told.
 const REASON_LEN: usize = 256;
+
+const LINE_LEN: usize = 512;
 
 // The reason alone: the number that the system has for it stands behind.
 fn reason(text: &str) -> &str {
@@ -15,14 +16,15 @@ fn reason(text: &str) -> &str {
     }
 }
 
-// A line on standard error, where that can be written to.
-fn say(rt: &HostRuntime, what: &str, why: &str) {
-    let _said = eprintln!(rt; "{what}: {why}").is_ok();
+// A line that says what failed, and the reason.
+pub(crate) fn line(what: &str, e: io::Error) -> ArrayString<LINE_LEN> {
+    let mut text = ArrayString::<REASON_LEN>::new();
+    let _fits = write!(text, "{e}").is_ok();
+    told(what, reason(text.as_str()))
 }
 
-// What failed, and the reason.
-pub(crate) fn told(rt: &HostRuntime, what: &str, e: io::Error) {
-    let mut text = ArrayString::<REASON_LEN>::new();
-    let _whole = write!(text, "{e}").is_ok();
-    say(rt, what, reason(text.as_str()));
+fn told(what: &str, why: &str) -> ArrayString<LINE_LEN> {
+    let mut line = ArrayString::<LINE_LEN>::new();
+    let _fits = writeln!(line, "{what}: {why}").is_ok();
+    line
 }

@@ -45,7 +45,7 @@ fn read(rt: &HostRuntime, buf: &mut [u8]) -> usize
 {
     let mut done = 0;
     while done < buf.len() {
-        let n = some(rt, &mut buf[done..]);
+        let n = read_some(rt, &mut buf[done..]);
         if n == 0 {
             return done;
         }
@@ -55,53 +55,49 @@ fn read(rt: &HostRuntime, buf: &mut [u8]) -> usize
 }
 
 // Reads what is there, which is nothing at the end of the input or where the read fails.
-fn some(rt: &HostRuntime, buf: &mut [u8]) -> usize
+fn read_some(rt: &HostRuntime, buf: &mut [u8]) -> usize
     ensures { result ≤ length buf.new }
 {
     match rt.stdin().read(buf) {
         Ok(n) => n,
         Err(e) => {
-            failure::told(rt, "setjoin: the input", e);
+            complain(rt, failure::line("setjoin: the input", e).as_bytes());
             0
         }
     }
 }
 
+// Whether all was written. What failed is said to the user, but where nobody reads any more.
 fn write(rt: &HostRuntime, text: &[u8]) -> bool {
     match Print::write_all(&rt.stdout(), text) {
         Ok(()) => true,
         Err(e) => {
-            unwritten(rt, e);
+            if !reports_unread(rt, &e) {
+                complain(rt, failure::line("setjoin: standard output", e).as_bytes());
+            }
             false
         }
     }
 }
 
-// A write that failed is said to the user, but where nobody reads any more.
-fn unwritten(rt: &HostRuntime, e: io::Error) {
-    if !left_alone(rt, &e) {
-        failure::told(rt, "setjoin: standard output", e);
+// Whether all was written to standard error.
+fn complain(rt: &HostRuntime, text: &[u8]) -> bool {
+    match Print::write_all(&rt.stderr(), text) {
+        Ok(()) => true,
+        Err(e) => {
+            reports_unread(rt, &e);
+            false
+        }
     }
 }
 
-// Whether nobody reads any more: the command then ends as the signal for that ends it, and is told so.
-fn left_alone(rt: &HostRuntime, e: &io::Error) -> bool {
+// Where nobody reads any more, a command that asks for the status is told so, and ends as the signal for that ends it. Whether it was told.
+fn reports_unread(rt: &HostRuntime, e: &io::Error) -> bool {
     if matches!(e.kind(), ErrorKind::BrokenPipe) && call::asks_status(rt) {
         tell(rt, UNREAD);
         return true;
     }
     false
-}
-
-// To standard error, where that can be written to.
-fn complain(rt: &HostRuntime, text: &[u8]) -> bool {
-    match Print::write_all(&rt.stderr(), text) {
-        Ok(()) => true,
-        Err(e) => {
-            left_alone(rt, &e);
-            false
-        }
-    }
 }
 
 // Writes the text out where the longest of a turn has no room behind it, or at once.
