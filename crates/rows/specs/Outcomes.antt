@@ -1,7 +1,7 @@
 -- What each row helper answers, and the bytes that it leaves behind.
-use Rattle.std.specs.Prelude.{◌≡◌, List, [], ◌∷◌, ℕ, eqb, length}
-use Rattle.answers.specs.declared.Answer.{Answer}
-use Rattle.answers.specs.declared.Answer.TheVariants.{Ok, InvalidPieceLength, BadState}
+use Rattle.std.specs.Prelude.{◌≡◌, List, [], ◌∷◌, ℕ, eqb, length, Ok, Err}
+use Rattle.answers.specs.Number.{Answer}
+use Rattle.answers.specs.declared.RLNCError.TheVariants.{InvalidPieceLength, BadState}
 use Rattle.galois.specs.Gf.{◌⊕◌}
 use Rattle.galois.specs.FieldLaws.{FieldLaws}
 use Rattle.linear.specs.Choice.{pick}
@@ -26,11 +26,11 @@ added_part 𝓕 q p b =
 
 -- rows of unequal lengths are refused
 abbrev pub lengths_answer : List ℕ → List ℕ → Answer
-lengths_answer src dst = pick (eqb (length dst) (length src)) Ok InvalidPieceLength
+lengths_answer src dst = pick (eqb (length dst) (length src)) (Ok tt) (Err InvalidPieceLength)
 
 -- parts that do not lie in the buffer, or overlap, are refused
 abbrev pub parts_answer : Parts → List ℕ → Answer
-parts_answer p buffer = pick (lie_apart p (length buffer)) Ok BadState
+parts_answer p buffer = pick (lie_apart p (length buffer)) (Ok tt) (Err BadState)
 
 -- a row times q
 pub record Scaled (𝓕 : FieldLaws) (q : ℕ) (row last : List ℕ) : Type 0 where

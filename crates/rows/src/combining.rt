@@ -12,7 +12,7 @@ ghost use Rattle.rows.specs.Combining.{Combined};
 ghost use Rattle.rows.specs.Chosen.{sum_at, Collected};
 
 use super::{add_row, clear};
-use answers::Answer;
+use answers::{Answer, RLNCError};
 use field::Field;
 
 // The rows lie one after the other, each as long as out: one for each number.
@@ -20,10 +20,10 @@ pub fn combine(f: Field, rows: &[u8], numbers: &[u8], out: &mut [u8]) -> Answer
     ensures { Combined (field_of f) rows.now numbers.now out.old result out.new }
 {
     if !holds_rows(rows.len(), numbers.len(), out.len()) {
-        return Answer::BadState;
+        return Err(RLNCError::BadState);
     }
     sum_bits(f, rows, numbers, out);
-    Answer::Ok
+    Ok(())
 }
 
 // A buffer of n bytes holds so many rows.

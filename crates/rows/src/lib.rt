@@ -10,7 +10,7 @@ ghost use Rattle.linear.specs.Rows.{all_zero, add_multiple, scale_row};
 ghost use Rattle.rows.specs.Parts.{lie_apart};
 ghost use Rattle.rows.specs.Outcomes.{add_row, summed_part, added_part, Scaled, Summed, Added, PartAdded};
 
-use answers::Answer;
+use answers::{Answer, RLNCError};
 use field::Field;
 
 mod combining;
@@ -33,10 +33,10 @@ pub fn inplace_add_vectors(vec_dst: &mut [u8], vec_src: &[u8]) -> Answer
     ensures { Summed vec_src.now vec_dst.old result vec_dst.new }
 {
     if vec_dst.len() != vec_src.len() {
-        return Answer::InvalidPieceLength;
+        return Err(RLNCError::InvalidPieceLength);
     }
     add_row(vec_dst, vec_src);
-    Answer::Ok
+    Ok(())
 }
 
 // Each byte of mul_vec times the scalar added to that of add_into_vec at its place.
@@ -49,14 +49,14 @@ pub fn mul_vec_by_scalar_then_add_into_vec(
     ensures { Added (field_of f) scalar mul_vec.now add_into_vec.old result add_into_vec.new }
 {
     if add_into_vec.len() != mul_vec.len() {
-        return Answer::InvalidPieceLength;
+        return Err(RLNCError::InvalidPieceLength);
     }
     match scalar {
         0 => {}
         1 => add_row(add_into_vec, mul_vec),
         _ => add_multiple(f, add_into_vec, mul_vec, scalar),
     }
-    Answer::Ok
+    Ok(())
 }
 
 // Two parts of one buffer, len bytes each.
@@ -96,17 +96,17 @@ pub fn mul_part_by_scalar_then_add_into_part(
     ensures { PartAdded (field_of f) scalar parts buffer.old result buffer.new }
 {
     if !parts.lie_apart(buffer.len()) {
-        return Answer::BadState;
+        return Err(RLNCError::BadState);
     }
     if scalar == 0 {
-        return Answer::Ok;
+        return Ok(());
     }
     if scalar == 1 {
         add_part(buffer, parts);
-        return Answer::Ok;
+        return Ok(());
     }
     add_multiple_of_part(f, buffer, parts, scalar);
-    Answer::Ok
+    Ok(())
 }
 
 // Zeros, all of it.
