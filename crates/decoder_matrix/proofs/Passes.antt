@@ -11,7 +11,7 @@ use lib.ListN.{length, get_or, take, drop, set, drop_of_length-le}
 use lib.Seq.{drop-cons}
 use Rattle.galois.specs.FieldLaws.{FieldLaws}
 use Rattle.galois.specs.Quotient.{inverse_of}
-use Rattle.galois.specs.declared.Quotient.TheVariants.{Byte, ByZero}
+use Rattle.std.specs.Prelude.{Some, None}
 use Rattle.linear.specs.Choice.{if_zero}
 use Rattle.linear.specs.Rows.{entry, first_nonzero, pivot_from, swap_rows, scale_row, clear_below, clear_pivoted, forward_at, forward, clear_above, backward_at, backward, drop_empty, reduce}
 use Rattle.linear.specs.Buffer.{rows_of, row_at, Ruled}
@@ -24,17 +24,17 @@ use Rattle.decoder_matrix.proofs.Range.{range_keeps, range_above}
 -- ---- what an inverse answers
 
 module _ (inv : ℕ → ℕ) where
-  pub inverse_byte : (a v : ℕ) → inverse_of inv a ≡ Byte v → v ≡ inv a
+  pub inverse_byte : (a v : ℕ) → inverse_of inv a ≡ Some v → v ≡ inv a
   unfolding inverse_of
   inverse_byte zero v e = cc
   inverse_byte (suc a) v e = cc
 
-  pub inverse_nonzero : (a v : ℕ) → inverse_of inv a ≡ Byte v → a ≡ 0 → ⊥
+  pub inverse_nonzero : (a v : ℕ) → inverse_of inv a ≡ Some v → a ≡ 0 → ⊥
   unfolding inverse_of
   inverse_nonzero zero v e z = let q : ◌≡◌ {A = ℕ} 0 1 = cc in omega arith
   inverse_nonzero (suc a) v e z = suc-ne-zero a z
 
-  pub inverse_zero : (a : ℕ) → inverse_of inv a ≡ ByZero → a ≡ 0
+  pub inverse_zero : (a : ℕ) → inverse_of inv a ≡ None → a ≡ 0
   unfolding inverse_of
   inverse_zero zero e = refl
   inverse_zero (suc a) e = cc

@@ -9,9 +9,8 @@ ghost use Rattle.decoder_matrix.specs.Matrix.{k_of, sizes_fit, rows_in, with_row
 ghost use Rattle.decoder_matrix.specs.Steps.{Applied, clear_range, Clears};
 ghost use Rattle.decoder_matrix.specs.Outcomes.{RowAdded, Swapped, Reduced};
 
-use answers::Answer;
+use answers::{Answer, RLNCError};
 use field::Field;
-use galois::Quotient;
 use rows::Parts;
 
 #[derive(Clone, Copy)]
@@ -19,13 +18,6 @@ pub struct DecoderMatrix {
     pub num_pieces_coded_together: usize,
     pub rows: usize,
     pub cols: usize,
-}
-
-// The matrix as it is now, or the reason why nothing changed.
-#[derive(Clone, Copy)]
-pub enum Matrix {
-    Of(DecoderMatrix),
-    Refused(Answer),
 }
 
 // The rows from `from` up to `to`, in which row `pivot` clears its own column, and the inverse of its entry there.
@@ -40,26 +32,26 @@ struct Clearing {
 impl DecoderMatrix {
     // The row stored behind those held.
     #[tactic(auto, using(crate::proofs::Sizes::place_in))]
-    pub fn add_row(mut self, elements: &mut [u8], row: &[u8]) -> Matrix
+    pub fn add_row(mut self, elements: &mut [u8], row: &[u8]) -> Result<DecoderMatrix, RLNCError>
         ensures { RowAdded self elements.old row.now result elements.new }
     {
         let k = self.num_pieces_coded_together;
         let rows = self.rows;
         let cols = self.cols;
         if !self.sizes_fit(elements.len()) {
-            return Matrix::Refused(Answer::BadState);
+            return Err(RLNCError::BadState);
         }
         if k <= rows {
-            return Matrix::Refused(Answer::BadState);
+            return Err(RLNCError::BadState);
         }
         if row.len() != cols {
-            return Matrix::Refused(Answer::InvalidPieceLength);
+            return Err(RLNCError::InvalidPieceLength);
         }
         let a = rows * cols;
         let e = a + cols;
         elements[a..e].copy_from_slice(row);
         self.rows = rows + 1;
-        Matrix::Of(self)
+        Ok(self)
     }
 
     // Exchanges two rows held.
@@ -70,16 +62,16 @@ impl DecoderMatrix {
         let rows = self.rows;
         let cols = self.cols;
         if !self.sizes_fit(elements.len()) {
-            return Answer::BadState;
+            return Err(RLNCError::BadState);
         }
         if rows <= row1_idx {
-            return Answer::BadState;
+            return Err(RLNCError::BadState);
         }
         if rows <= row2_idx {
-            return Answer::BadState;
+            return Err(RLNCError::BadState);
         }
         if row1_idx == row2_idx {
-            return Answer::Ok;
+            return Ok(());
         }
         let a = row1_idx * cols;
         let b = row2_idx * cols;
@@ -90,19 +82,19 @@ impl DecoderMatrix {
             elements[b + t] = x;
             t += 1;
         }
-        Answer::Ok
+        Ok(())
     }
 
     // The three row rules: the rows that are left, and zeros behind them.
-    pub fn rref(self, f: Field, elements: &mut [u8]) -> Matrix
+    pub fn rref(self, f: Field, elements: &mut [u8]) -> Result<DecoderMatrix, RLNCError>
         ensures { Reduced (field_of f) self elements.old result elements.new }
     {
         if !self.sizes_fit(elements.len()) {
-            return Matrix::Refused(Answer::BadState);
+            return Err(RLNCError::BadState);
         }
         self.clean_forward(f, elements);
         self.clean_backward(f, elements);
-        Matrix::Of(self.remove_zero_rows(elements))
+        Ok(self.remove_zero_rows(elements))
     }
 
     // Rule 1.
@@ -140,7 +132,7 @@ impl DecoderMatrix {
         let rows = self.rows;
         let cols = self.cols;
         let a = i * cols;
-        let Quotient::Byte(v) = f.inv(elements[a + i]) else {
+        let Some(v) = f.inv(elements[a + i]) else {
             return;
         };
         let below = Clearing {
@@ -203,7 +195,7 @@ impl DecoderMatrix {
         let cols = self.cols;
         let a = i * cols;
         let e = a + cols;
-        let Quotient::Byte(v) = f.inv(elements[a + i]) else {
+        let Some(v) = f.inv(elements[a + i]) else {
             return;
         };
         let above = Clearing {
