@@ -7,7 +7,6 @@ ghost use Rattle.galois.specs.Quotient.{inverse_of, quotient_of};
 ghost use Rattle.galois.specs.Multiples.{multiples_of};
 ghost use Rattle.field.specs.FieldOf.{field_of};
 
-use galois::Quotient;
 use gf256::Gf256;
 
 #[derive(Clone, Copy)]
@@ -24,7 +23,7 @@ impl Field {
         }
     }
 
-    pub fn inv(self, a: u8) -> Quotient
+    pub fn inv(self, a: u8) -> Option<u8>
         ensures { result ≡ inverse_of (field_of self).inv a }
     {
         match self {
@@ -32,14 +31,12 @@ impl Field {
         }
     }
 
-    #[tactic(auto, using(galois::proofs::Divided::quotient_none))]
-    pub fn div(self, a: u8, b: u8) -> Quotient
+    pub fn div(self, a: u8, b: u8) -> Option<u8>
         ensures { result ≡ quotient_of (field_of self).mul (field_of self).inv a b }
     {
-        let Quotient::Byte(i) = self.inv(b) else {
-            return Quotient::ByZero;
-        };
-        Quotient::Byte(self.mul(a, i))
+        match self {
+            Field::Fips197 => Gf256::new(a) / Gf256::new(b),
+        }
     }
 
     fn times_x(self, a: u8) -> u8

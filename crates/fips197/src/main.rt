@@ -2,7 +2,6 @@
 // document's numbers.
 #![tactic(auto)]
 
-use galois::Quotient;
 use gf256::Gf256;
 use std::io;
 
@@ -18,10 +17,7 @@ fn turned(b: u8) -> u8 {
 
 // Section 5.1.1: the inverse, or 0 for 0, then the affine transformation.
 fn s_box(a: u8) -> u8 {
-    let b = match Gf256::new(a).inv() {
-        Quotient::Byte(v) => v,
-        Quotient::ByZero => 0,
-    };
+    let b = Gf256::new(a).inv().unwrap_or(0);
     let b1 = turned(b);
     let b2 = turned(b1);
     let b3 = turned(b2);
