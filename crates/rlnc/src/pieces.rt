@@ -3,7 +3,7 @@
 ghost use Rattle.std.specs.Prelude.{◌≡◌};
 ghost use Rattle.stream.specs.Geometries.{geometry_of};
 ghost use Rattle.stream.specs.Records.{kind_record, record_at};
-ghost use Rattle.rlnc.specs.Streams.{listed_in, earlier_of, read_by, RecordGiven, PieceWritten, SizesGiven};
+ghost use Rattle.rlnc.specs.Streams.{earlier_of, read_by, RecordGiven, PieceWritten, SizesGiven};
 
 use answers::Answer;
 use stream::{Geometry, Record, Seen};
@@ -81,7 +81,7 @@ pub fn rlnc_stream_read(so_far: u8, bytes: &[u8], kind: &mut u8) -> u8
 }
 
 pub fn rlnc_stream_write(kind: u8, piece: &[u8], out: &mut [u8]) -> u8
-    ensures { PieceWritten (listed_in (geometry_of kind)) piece.now out.old result out.new }
+    ensures { PieceWritten (geometry_of kind) piece.now out.old result out.new }
 {
     let Listed::Of(g) = of_kind(kind) else {
         return Answer::UnknownKind.number();
@@ -91,7 +91,7 @@ pub fn rlnc_stream_write(kind: u8, piece: &[u8], out: &mut [u8]) -> u8
 
 // k and L of a kind of piece; a whole piece is as many bytes as both together.
 pub fn rlnc_stream_sizes(kind: u8, piece_count: &mut usize, piece_byte_len: &mut usize) -> u8
-    ensures { SizesGiven (listed_in (geometry_of kind)) piece_count.old piece_byte_len.old result piece_count.new piece_byte_len.new }
+    ensures { SizesGiven (geometry_of kind) piece_count.old piece_byte_len.old result piece_count.new piece_byte_len.new }
 {
     let Listed::Of(g) = of_kind(kind) else {
         return Answer::UnknownKind.number();
