@@ -1,7 +1,6 @@
 -- The block searched row by row, where it stands: what is behind a row is what is behind its payload.
 -- Assumes nothing.
 use mathlib.Core.Path.{◌≡◌, refl, sym, ap, ◌∙◌}
-use mathlib.Core.Option.{Option, none, some}
 use mathlib.Core.Bool.{◌&&◌}
 use mathlib.Core.List.{List, ◌++◌}
 use Prim.Native.Nat.{ℕ, zero, suc, ◌+◌, ◌-◌, ◌*◌, ◌≤◌, ◌<◌}
@@ -10,29 +9,20 @@ use native.Mathlib.Numerals.{add-one}
 use native.Mathlib.Omega.{arith}
 use lib.ListN.{length, take, drop, length-drop}
 use lib.Seq.{drop-drop, drop-append-le, length-take-le}
+use Rattle.std.specs.Prelude.{Some, None, Result, Ok, Err}
 use Rattle.linear.specs.Rows.{all_zero}
 use Rattle.linear.proofs.Buffer.{row_end}
 use Rattle.linear.specs.Choice.{pick}
-use Rattle.block.specs.declared.Padding.{Padding}
-use Rattle.block.specs.declared.Padding.TheVariants.{Data, MarkerAbsent, MarkerFirst, TailNotZero}
+use Rattle.block.specs.declared.BrokenPadding.{BrokenPadding}
+use Rattle.block.specs.declared.BrokenPadding.TheVariants.{MarkerAbsent, MarkerFirst, TailNotZero}
 use Rattle.block.specs.Reading.{last_marker, read_at, reading}
 use Rattle.block.proofs.Reading.{Reason, carried, reason}
 use Rattle.block.proofs.LastMarker.{last_front, zero_append}
-use Rattle.decoder.specs.declared.Found.TheVariants.{At, Nothing}
-use Rattle.decoder.specs.Search.{found}
 use Rattle.decoder.proofs.Marker.{from}
 use Rattle.decoder.proofs.Payload.{payloads, payload, length_payloads, from_row}
 
-pub found_at : (o : Option ℕ) (j : ℕ) → found o ≡ At j → o ≡ some j
-found_at none j e = let z : ◌≡◌ {A = ℕ} 0 1 = cc in absurd (omega arith)
-found_at (some i) j e = cc
-
-pub found_nothing : (o : Option ℕ) → found o ≡ Nothing → o ≡ none
-found_nothing none e = refl
-found_nothing (some i) e = let z : ◌≡◌ {A = ℕ} 0 1 = cc in absurd (omega arith)
-
 module _ (M k L n : ℕ) (buffer : List ℕ) (i m : ℕ) (s : i + 1 ≡ m) (h : i < n) (w : n * (k + L) ≤ length buffer)
-    (e : last_marker M (drop (m * L) (payloads k L n buffer)) ≡ none) where
+    (e : last_marker M (drop (m * L) (payloads k L n buffer)) ≡ None) where
   abbrev row : List ℕ
   row = take L (drop (i * (k + L) + k) buffer)
 
@@ -43,10 +33,10 @@ module _ (M k L n : ℕ) (buffer : List ℕ) (i m : ℕ) (s : i + 1 ≡ m) (h : 
       ap (last_marker M) (from_row k L n i buffer h w)
       ∙ last_front M row (drop (i * L + L) (payloads k L n buffer)) (rw next e)
 
-  pub row_marked : (j : ℕ) → last_marker M row ≡ some j → last_marker M (payloads k L n buffer) ≡ some (i * L + j)
+  pub row_marked : (j : ℕ) → last_marker M row ≡ Some j → last_marker M (payloads k L n buffer) ≡ Some (i * L + j)
   row_marked j q = from M (payloads k L n buffer) (i * L) j (omega (arith, length_payloads k L n buffer w, row_end L h)) (of_row ∙ q)
 
-  pub row_unmarked : last_marker M row ≡ none → last_marker M (drop (i * L) (payloads k L n buffer)) ≡ none
+  pub row_unmarked : last_marker M row ≡ None → last_marker M (drop (i * L) (payloads k L n buffer)) ≡ None
   row_unmarked q = of_row ∙ q
 
 -- the bytes from byte `skip` of row i on: the rest of the row, and the rows behind it
@@ -70,25 +60,23 @@ module _ (k L n : ℕ) (buffer : List ℕ) (i skip : ℕ) (h : i < n) (t : skip 
 
 -- what the padding tells, by what the searches have found
 module _ (M : ℕ) (block : List ℕ) where
-  pub reads_none : last_marker M block ≡ none → MarkerAbsent ≡ reading M block
+  pub reads_none : last_marker M block ≡ None → Err MarkerAbsent ≡ reading M block
   unfolding reading read_at
   reads_none e = rw e
 
-  pub reads_zero : last_marker M block ≡ some 0 → MarkerFirst ≡ reading M block
+  pub reads_zero : last_marker M block ≡ Some 0 → Err MarkerFirst ≡ reading M block
   unfolding reading read_at
   reads_zero e = rw e
 
-  pub reads_some : (n : ℕ) → last_marker M block ≡ some n → (n ≡ 0 → ⊥) → pick (all_zero (drop (n + 1) block)) (Data n) TailNotZero ≡ reading M block
+  pub reads_some : (n : ℕ) → last_marker M block ≡ Some n → (n ≡ 0 → ⊥) → pick (all_zero (drop (n + 1) block)) (Ok n) (Err TailNotZero) ≡ reading M block
   unfolding reading read_at
   reads_some zero e q = absurd (q refl)
-  reads_some (suc n) e q = rw e (ap (λ (i : ℕ). pick (all_zero (drop i block)) (Data (suc n)) TailNotZero) (add-one (suc n)))
+  reads_some (suc n) e q = rw e (ap (λ (i : ℕ). pick (all_zero (drop i block)) (Ok (suc n)) (Err TailNotZero)) (add-one (suc n)))
 
   -- the data is shorter than the block
-  pub data_in : (n : ℕ) → reading M block ≡ Data n → n < length block
+  pub data_in : (n : ℕ) → reading M block ≡ Ok n → n < length block
   data_in n e = go (reading M block) (reason M block) e
     where
-      go : (p : Padding) → Reason M block p → p ≡ Data n → n < length block
-      go (Data m) (carried l p z) e = let same : m ≡ n = cc in omega (arith, l.inside)
-      go MarkerAbsent r e = let z : ◌≡◌ {A = ℕ} 0 1 = cc in absurd (omega arith)
-      go MarkerFirst r e = let z : ◌≡◌ {A = ℕ} 0 1 = cc in absurd (omega arith)
-      go TailNotZero r e = let z : ◌≡◌ {A = ℕ} 0 1 = cc in absurd (omega arith)
+      go : (p : Result ℕ BrokenPadding) → Reason M block p → p ≡ Ok n → n < length block
+      go (Ok m) (carried l p z) e = let same : m ≡ n = cc in omega (arith, l.inside)
+      go (Err b) r e = cc
