@@ -3,7 +3,7 @@
 #![tactic(auto)]
 
 ghost use Rattle.std.specs.Prelude.{◌≡◌, ◌≤◌, length};
-ghost use Rattle.answers.specs.Number.{number_of};
+ghost use Rattle.answers.specs.Number.{code_of};
 ghost use Rattle.field.specs.FieldOf.{field_of};
 ghost use Rattle.reader.specs.declared.Then.TheVariants as Then·;
 ghost use Rattle.reader.specs.Reading.{wanted, body_in};
@@ -12,9 +12,8 @@ ghost use Rattle.listing.specs.Listing.{block_room};
 ghost use Rattle.joiner.specs.Machine.{end_room, text_room, fresh, state, Feeding};
 ghost use Rattle.joiner.specs.Parts.{Front, Begun, Closed};
 
-use answers::Answer;
+use answers::RLNCError;
 use field::Field;
-use listing::Put;
 use listing::join::{End, Joining, Step};
 use reader::{Came, Progress, Reader, Then};
 
@@ -42,12 +41,12 @@ pub struct Joiner {
     pub ending: Ending,
 }
 
-// The machine after a turn, and how many bytes of text there are: of what came first, and behind it of what follows, the last lines among them. Or
-// why nothing was done.
+// The machine after a turn, and how many bytes of text there are: of what came first, and behind it of what follows, the last lines among them.
 #[derive(Clone, Copy)]
-pub enum Fed {
-    Text(Joiner, usize, usize),
-    Refused(Answer),
+pub struct Fed {
+    pub joiner: Joiner,
+    pub first: usize,
+    pub later: usize,
 }
 
 #[derive(Clone, Copy)]
@@ -85,39 +84,29 @@ impl Joiner {
         elements: &mut [u8],
         data: &mut [u8],
         out: &mut [u8],
-    ) -> Fed
+    ) -> Result<Fed, RLNCError>
         ensures { Feeding (field_of f) self input.now elements.old «data».old out.old result elements.new «data».new out.new }
     {
         if out.len() < TEXT_LEN {
-            return Fed::Refused(Answer::NoRoom);
+            return Err(RLNCError::NoRoom);
         }
         if data.len() < BLOCK_LEN {
-            return Fed::Refused(Answer::NoRoom);
+            return Err(RLNCError::NoRoom);
         }
-        let reader = self.reader;
-        let joining = self.joining;
-        match reader.read(input) {
-            Progress::Refused(a) => Fed::Refused(a),
-            Progress::Of(reader, came, then) => match begin(
-                joining, f, came, input, elements, out,
-            ) {
-                Step::Refused(a) => Fed::Refused(a),
-                Step::Line(joining, n) => {
-                    let at = reader.at;
-                    let c = close(joining, then, at, elements, data, &mut out[n..]);
-                    let ending = c.ending;
-                    Fed::Text(
-                        Joiner {
-                            reader,
-                            joining,
-                            ending,
-                        },
-                        n,
-                        c.size,
-                    )
-                }
-            },
-        }
+        let Progress { reader, came, then } = self.reader.read(input)?;
+        let Step { joining, size: first } = begin(self.joining, f, came, input, elements, out)?;
+        let Closing { ending, size: later } =
+            close(joining, then, reader.at, elements, data, &mut out[first..]);
+        let joiner = Joiner {
+            reader,
+            joining,
+            ending,
+        };
+        Ok(Fed {
+            joiner,
+            first,
+            later,
+        })
     }
 }
 
@@ -129,21 +118,21 @@ fn begin(
     input: &[u8],
     elements: &mut [u8],
     out: &mut [u8],
-) -> Step
+) -> Result<Step, RLNCError>
     requires text_room_in_bounds { text_room ≤ length out.old }
     requires came_in_bounds { body_in came ≤ length input.now }
     ensures { Begun (field_of f) (state joining elements.old) came input.now out.old result elements.new out.new }
 {
     match came {
-        Came::Start => match listing::header_line(out) {
-            Put::Bytes(n) => Step::Line(joining, n),
-            Put::Refused(a) => Step::Refused(a),
-        },
+        Came::Start => {
+            let size = listing::header_line(out)?;
+            Ok(Step { joining, size })
+        }
         Came::Piece(g) => {
             let n = g.body_len();
             joining.piece(f, g, &input[..n], elements, out)
         }
-        Came::Cut => Step::Line(joining, 0),
+        Came::Cut => Ok(Step { joining, size: 0 }),
     }
 }
 
@@ -166,13 +155,10 @@ fn close(
             size: 0,
         },
         Then::End => finish(joining, elements, data, out),
-        Then::Stop(a) => {
-            let size = stop(at, a, out);
-            Closing {
-                ending: Ending::Stopped,
-                size,
-            }
-        }
+        Then::Stop(e) => Closing {
+            ending: Ending::Stopped,
+            size: listing::stop_line(out, e, at).unwrap(),
+        },
     }
 }
 
@@ -183,7 +169,7 @@ fn finish(joining: Joining, elements: &[u8], data: &mut [u8], out: &mut [u8]) ->
     ensures { Closed (state joining elements.now) Then·.End 0 «data».old out.old result «data».new out.new }
 {
     let room = BLOCK_LEN;
-    match joining.finish(elements, &mut data[..room], out) {
+    match joining.finish(elements, &mut data[..room], out).unwrap() {
         End::Data(n, size) => Closing {
             ending: Ending::Rebuilt(n),
             size,
@@ -192,20 +178,5 @@ fn finish(joining: Joining, elements: &[u8], data: &mut [u8], out: &mut [u8]) ->
             ending: Ending::Open,
             size,
         },
-        End::Refused(_) => Closing {
-            ending: Ending::Stopped,
-            size: 0,
-        },
-    }
-}
-
-// The line of a stop. Answers how long it is.
-fn stop(at: u64, answer: Answer, out: &mut [u8]) -> usize
-    requires { end_room ≤ length out.old }
-    ensures { Front (stop_line (number_of answer) at) out.old result out.new }
-{
-    match listing::stop_line(out, answer, at) {
-        Put::Bytes(n) => n,
-        Put::Refused(_) => 0,
     }
 }
