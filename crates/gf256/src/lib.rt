@@ -155,6 +155,7 @@ impl Div for Gf256 {
 
     ghost div_gives = { λ a b r. r ≡ quotient_of (mul polynomial) (inverse polynomial) a.val b.val };
 
+    #[tactic(auto, using(galois::proofs::Divided::quotient_none))]
     fn div(self, rhs: Gf256) -> Option<u8> {
         let i = rhs.inv()?;
         Some(Gf256::mul_const(self.val, i))
