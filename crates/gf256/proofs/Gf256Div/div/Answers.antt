@@ -8,4 +8,4 @@ use Rattle.gf256.proofs.Gf256Div.div.Goals as goal
 pub returns : goal.returns
 returns c =
     quotient_some (mul polynomial) (inverse polynomial) c.args.self.val c.args.rhs.val c.in_ok-i.i c.mul_const.result
-    (sym c.inv.ensures ∙ c.in_ok-i.was tt) c.mul_const.ensures
+    (sym c.inv.ensures ∙ c.in_ok-i.was) c.mul_const.ensures
