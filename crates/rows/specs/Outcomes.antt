@@ -15,10 +15,6 @@ add_row [] dst = dst
 add_row (s ∷ src) [] = []
 add_row (s ∷ src) (d ∷ dst) = (d ⊕ s) ∷ add_row src dst
 
--- the part at `to` plus the part at `from`
-abbrev pub summed_part : Parts → List ℕ → List ℕ
-summed_part p b = put_part p.to p.len (add_row (part_at p.from p.len b) (part_at p.to p.len b)) b
-
 -- the part at `to` plus q times the part at `from`
 abbrev pub added_part : FieldLaws → ℕ → Parts → List ℕ → List ℕ
 added_part 𝓕 q p b =

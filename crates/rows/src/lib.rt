@@ -8,7 +8,7 @@ ghost use Rattle.galois.specs.Multiples.{multiples_of};
 ghost use Rattle.field.specs.FieldOf.{field_of};
 ghost use Rattle.linear.specs.Rows.{all_zero, add_multiple, scale_row};
 ghost use Rattle.rows.specs.Parts.{lie_apart};
-ghost use Rattle.rows.specs.Outcomes.{add_row, summed_part, added_part, Scaled, Summed, Added, PartAdded};
+ghost use Rattle.rows.specs.Outcomes.{add_row, Scaled, Summed, Added, PartAdded};
 
 use answers::{Answer, RLNCError};
 use field::Field;
@@ -51,11 +51,7 @@ pub fn mul_vec_by_scalar_then_add_into_vec(
     if add_into_vec.len() != mul_vec.len() {
         return Err(RLNCError::InvalidPieceLength);
     }
-    match scalar {
-        0 => {}
-        1 => add_row(add_into_vec, mul_vec),
-        _ => add_multiple(f, add_into_vec, mul_vec, scalar),
-    }
+    add_scaled(f, add_into_vec, mul_vec, scalar);
     Ok(())
 }
 
@@ -98,14 +94,14 @@ pub fn mul_part_by_scalar_then_add_into_part(
     if !parts.lie_apart(buffer.len()) {
         return Err(RLNCError::BadState);
     }
-    if scalar == 0 {
-        return Ok(());
+    let Parts { from, to, len } = parts;
+    if from < to {
+        let (front, back) = buffer.split_at_mut(to);
+        add_scaled(f, &mut back[..len], &front[from..from + len], scalar);
+    } else {
+        let (front, back) = buffer.split_at_mut(from);
+        add_scaled(f, &mut front[to..to + len], &back[..len], scalar);
     }
-    if scalar == 1 {
-        add_part(buffer, parts);
-        return Ok(());
-    }
-    add_multiple_of_part(f, buffer, parts, scalar);
     Ok(())
 }
 
@@ -113,35 +109,33 @@ pub fn mul_part_by_scalar_then_add_into_part(
 pub fn clear(vec: &mut [u8])
     ensures { vec.new ≡ replicate (length vec.old) 0 }
 {
-    let mut i = 0;
-    while i < vec.len() {
-        vec[i] = 0;
-        i += 1;
-    }
+    vec.fill(0);
 }
 
 // Whether every byte is 0.
 pub fn is_zero(part: &[u8]) -> bool
     ensures { result ≡ all_zero part.now }
 {
-    let mut i = 0;
-    while i < part.len() {
-        if part[i] != 0 {
-            return false;
-        }
-        i += 1;
-    }
-    true
+    part.iter().all(|b| *b == 0)
 }
 
 fn scale(f: Field, vec: &mut [u8], q: u8)
     ensures { vec.new ≡ scale_row (field_of f) q vec.old }
 {
     let m = f.multiples(q);
-    let mut i = 0;
-    while i < vec.len() {
-        vec[i] = sum_chosen(m, vec[i]);
-        i += 1;
+    for b in vec.iter_mut() {
+        *b = sum_chosen(m, *b);
+    }
+}
+
+fn add_scaled(f: Field, dst: &mut [u8], src: &[u8], scalar: u8)
+    requires { length dst.old ≡ length src.now }
+    ensures { dst.new ≡ add_multiple (field_of f) scalar src.now dst.old }
+{
+    match scalar {
+        0 => {}
+        1 => add_row(dst, src),
+        _ => add_multiple(f, dst, src, scalar),
     }
 }
 
@@ -149,10 +143,8 @@ fn add_row(dst: &mut [u8], src: &[u8])
     requires { length dst.old ≡ length src.now }
     ensures { dst.new ≡ add_row src.now dst.old }
 {
-    let mut i = 0;
-    while i < dst.len() {
-        dst[i] = dst[i] ^ src[i];
-        i += 1;
+    for (i, b) in dst.iter_mut().enumerate() {
+        *b ^= src[i];
     }
 }
 
@@ -161,39 +153,8 @@ fn add_multiple(f: Field, dst: &mut [u8], src: &[u8], q: u8)
     ensures { dst.new ≡ add_multiple (field_of f) q src.now dst.old }
 {
     let m = f.multiples(q);
-    let mut i = 0;
-    while i < dst.len() {
-        dst[i] = dst[i] ^ sum_chosen(m, src[i]);
-        i += 1;
-    }
-}
-
-fn add_part(buffer: &mut [u8], p: Parts)
-    requires { lie_apart p (length buffer.old) ≡ true }
-    ensures { buffer.new ≡ summed_part p buffer.old }
-{
-    let from = p.from;
-    let to = p.to;
-    let len = p.len;
-    let mut i = 0;
-    while i < len {
-        buffer[to + i] = buffer[to + i] ^ buffer[from + i];
-        i += 1;
-    }
-}
-
-fn add_multiple_of_part(f: Field, buffer: &mut [u8], p: Parts, q: u8)
-    requires { lie_apart p (length buffer.old) ≡ true }
-    ensures { buffer.new ≡ added_part (field_of f) q p buffer.old }
-{
-    let from = p.from;
-    let to = p.to;
-    let len = p.len;
-    let m = f.multiples(q);
-    let mut i = 0;
-    while i < len {
-        buffer[to + i] = buffer[to + i] ^ sum_chosen(m, buffer[from + i]);
-        i += 1;
+    for (i, b) in dst.iter_mut().enumerate() {
+        *b ^= sum_chosen(m, src[i]);
     }
 }
 

@@ -9,5 +9,3 @@ use Rattle.rows.proofs.add_multiple.Given as goal
 abbrev pub invariant-loop-i : goal.invariant-loop-i
 invariant-loop-i l = (𝓕 : FieldLaws) → l.m ≡ multiples_of 𝓕 l.q → Turned l.i (add_multiple 𝓕 l.q l.src l.initial.dst) l.initial.dst l.dst
 
-abbrev pub decreases-loop-i : goal.decreases-loop-i
-decreases-loop-i l = length l.initial.dst - l.i

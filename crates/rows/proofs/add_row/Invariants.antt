@@ -7,5 +7,3 @@ use Rattle.rows.proofs.add_row.Given as goal
 abbrev pub invariant-loop-i : goal.invariant-loop-i
 invariant-loop-i l = Turned l.i (add_row l.src l.initial.dst) l.initial.dst l.dst
 
-abbrev pub decreases-loop-i : goal.decreases-loop-i
-decreases-loop-i l = length l.initial.dst - l.i
