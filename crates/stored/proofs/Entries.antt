@@ -9,14 +9,12 @@ use native.Mathlib.Omega.{arith}
 use lib.Dec.{ltb}
 use lib.ListN.{length, get_or, drop}
 use borrow.Author.Tests.{lt-ltb, le-ltb}
-use Rattle.answers.specs.declared.Answer.TheVariants.{NoRoom, BadState, UnknownKind, CutRecord}
+use Rattle.std.specs.Prelude.{Option, Some, None, Result, Ok, Err}
+use Rattle.answers.specs.declared.RLNCError.TheVariants.{NoRoom, BadState, UnknownKind, CutRecord}
 use Rattle.stream.specs.declared.Geometry.{Geometry}
 use Rattle.decoder.specs.declared.Decoder.{Decoder}
 use Rattle.decoder.specs.Records.{k_of, l_of, bad_state}
 use Rattle.decoder.proofs.Sound.{holds}
-use Rattle.stored.specs.declared.Listed.TheVariants as listed
-use Rattle.stored.specs.declared.Saved.TheVariants as saved
-use Rattle.stored.specs.declared.Loaded.TheVariants as loaded
 use Rattle.stored.specs.Forms.{matrix_size, form_size, stored_geometry, size_geometry, form_of, form_matrix, form_decoder}
 use Rattle.stored.specs.Entries.{size_refusal, save_refusal, saved_form, Saving, bad_form, form_refusal, load_refusal, geometry_in, load_result, load_matrix, Loading}
 use Rattle.stored.proofs.Forms.{sizes_are, length_form}
@@ -24,17 +22,17 @@ use Rattle.stored.proofs.Forms.{sizes_are, length_form}
 -- ---- saving
 
 module _ (d : Decoder) (elements out : List ℕ) where
-  pub saves_bad : bad_state d (length elements) ≡ true → Saving d elements out (saved.Refused BadState) out
+  pub saves_bad : bad_state d (length elements) ≡ true → Saving d elements out (Err BadState) out
   unfolding save_refusal
   saves_bad b = record { result = rw b; left = rw b }
 
   module _ (b : bad_state d (length elements) ≡ false) where
-    pub saves_unlisted : size_geometry (k_of d) (l_of d) ≡ listed.Unlisted → Saving d elements out (saved.Refused UnknownKind) out
+    pub saves_unlisted : size_geometry (k_of d) (l_of d) ≡ None → Saving d elements out (Err UnknownKind) out
     unfolding save_refusal size_refusal
     saves_unlisted s = record { result = rw (b, s); left = rw (b, s) }
 
-    module _ (g : Geometry) (s : size_geometry (k_of d) (l_of d) ≡ listed.Of g) where
-      pub saves_no_room : length out < form_size g → Saving d elements out (saved.Refused NoRoom) out
+    module _ (g : Geometry) (s : size_geometry (k_of d) (l_of d) ≡ Some g) where
+      pub saves_no_room : length out < form_size g → Saving d elements out (Err NoRoom) out
       unfolding save_refusal size_refusal
       saves_no_room h =
           let t : ltb (length out) (form_size g) ≡ true = lt-ltb (length out) (form_size g) h in
@@ -47,7 +45,7 @@ module _ (d : Decoder) (elements out : List ℕ) where
           length_form g d elements k_is l_is h.numbers.rows_pieces h.room
 
       pub saves : {last : List ℕ} → form_size g ≤ length out → last ≡ form_of g d elements ++ drop (form_size g) out
-          → Saving d elements out (saved.Bytes (form_size g)) last
+          → Saving d elements out (Ok (form_size g)) last
       unfolding save_refusal size_refusal saved_form
       saves h e =
           let t : ltb (length out) (form_size g) ≡ false = le-ltb (length out) (form_size g) h in
@@ -56,7 +54,7 @@ module _ (d : Decoder) (elements out : List ℕ) where
 -- ---- loading
 
 module _ (elements : List ℕ) where
-  pub loads_empty : (form : List ℕ) → length form ≡ 0 → Loading form elements (loaded.Refused CutRecord) elements
+  pub loads_empty : (form : List ℕ) → length form ≡ 0 → Loading form elements (Err CutRecord) elements
   unfolding load_refusal geometry_in load_result
   loads_empty [] z = record { result = refl; left = refl }
   loads_empty (kind ∷ rest) z = absurd (omega arith)
@@ -78,12 +76,12 @@ module _ (elements : List ℕ) where
         go [] n = absurd (n refl)
         go (kind ∷ rest) n = refl
 
-    pub loads_unlisted : stored_geometry (get_or form 0 0) ≡ listed.Unlisted → Loading form elements (loaded.Refused UnknownKind) elements
+    pub loads_unlisted : stored_geometry (get_or form 0 0) ≡ None → Loading form elements (Err UnknownKind) elements
     unfolding form_refusal load_result
     loads_unlisted s = record { result = rw (told, refusal, s); left = rw (told, refusal, s) }
 
-    module _ (g : Geometry) (s : stored_geometry (get_or form 0 0) ≡ listed.Of g) where
-      pub loads_short : length form < form_size g → Loading form elements (loaded.Refused CutRecord) elements
+    module _ (g : Geometry) (s : stored_geometry (get_or form 0 0) ≡ Some g) where
+      pub loads_short : length form < form_size g → Loading form elements (Err CutRecord) elements
       unfolding form_refusal load_result
       loads_short h =
           let t : ltb (length form) (form_size g) ≡ true = lt-ltb (length form) (form_size g) h in
@@ -93,7 +91,7 @@ module _ (elements : List ℕ) where
         t : ltb (length form) (form_size g) ≡ false
         t = le-ltb (length form) (form_size g) w
 
-        pub loads_no_room : length elements < matrix_size g → Loading form elements (loaded.Refused NoRoom) elements
+        pub loads_no_room : length elements < matrix_size g → Loading form elements (Err NoRoom) elements
         unfolding form_refusal load_result
         loads_no_room h =
             let u : ltb (length elements) (matrix_size g) ≡ true = lt-ltb (length elements) (matrix_size g) h in
@@ -103,11 +101,11 @@ module _ (elements : List ℕ) where
           u : ltb (length elements) (matrix_size g) ≡ false
           u = le-ltb (length elements) (matrix_size g) v
 
-          pub loads_bad : bad_form g form ≡ true → Loading form elements (loaded.Refused BadState) elements
+          pub loads_bad : bad_form g form ≡ true → Loading form elements (Err BadState) elements
           unfolding form_refusal load_result
           loads_bad b = record { result = rw (told, refusal, s, t, u, b); left = rw (told, refusal, s, t, u, b) }
 
           pub loads : {last : List ℕ} → bad_form g form ≡ false → last ≡ form_matrix g form ++ drop (matrix_size g) elements
-              → Loading form elements (loaded.Of (form_decoder g form)) last
+              → Loading form elements (Ok (form_decoder g form)) last
           unfolding form_refusal load_result load_matrix
           loads b e = record { result = rw (told, refusal, s, t, u, b); left = e ∙ rw (told, refusal, s, t, u, b) }

@@ -11,6 +11,7 @@ use lib.Dec.{eqb}
 use lib.ListN.{length, take, drop, replicate, length-append, length-replicate}
 use lib.Seq.{take-nil, length-take-le}
 use borrow.Author.Tests.{eqb-true}
+use Rattle.std.specs.Prelude.{Option, Some, None}
 use Rattle.linear.specs.Choice.{pick}
 use Rattle.linear.specs.Buffer.{flat}
 use Rattle.linear.proofs.Flat.{flat_front}
@@ -20,7 +21,6 @@ use Rattle.stream.specs.declared.Geometry.TheVariants.{Of3By2, Of16By240, Of32By
 use Rattle.stream.specs.Geometries.{pieces_of, length_of, body_of}
 use Rattle.decoder.specs.declared.Decoder.{Decoder}
 use Rattle.decoder.specs.Records.{k_of, l_of, f_of, rows_in, held_rows}
-use Rattle.stored.specs.declared.Listed.TheVariants as listed
 use Rattle.stored.specs.Forms.{stored_kind, matrix_size, form_size, stored_geometry, size_geometry, form_of}
 use Rattle.stored.proofs.Numbers.{inside}
 
@@ -28,20 +28,20 @@ use Rattle.stored.proofs.Numbers.{inside}
 
 -- the first of three tests that holds
 first_of : (P : Geometry → Type 0) (a b c : Bool) (g : Geometry)
-    → pick a (listed.Of Of3By2) (pick b (listed.Of Of16By240) (pick c (listed.Of Of32By480) listed.Unlisted)) ≡ listed.Of g
+    → pick a (Some Of3By2) (pick b (Some Of16By240) (pick c (Some Of32By480) None)) ≡ Some g
     → (a ≡ true → P Of3By2) → (b ≡ true → P Of16By240) → (c ≡ true → P Of32By480) → P g
 first_of P true b c g e p q r = let h : Of3By2 ≡ g = cc in subst P h (p refl)
 first_of P false true c g e p q r = let h : Of16By240 ≡ g = cc in subst P h (q refl)
 first_of P false false true g e p q r = let h : Of32By480 ≡ g = cc in subst P h (r refl)
 first_of P false false false g e p q r = let z : ◌≡◌ {A = ℕ} 0 1 = cc in absurd (omega arith)
 
-pub kind_is : (kind : ℕ) (g : Geometry) → stored_geometry kind ≡ listed.Of g → kind ≡ stored_kind g
+pub kind_is : (kind : ℕ) (g : Geometry) → stored_geometry kind ≡ Some g → kind ≡ stored_kind g
 unfolding stored_geometry
 kind_is kind g e =
     first_of (λ h. kind ≡ stored_kind h) (eqb kind 0x21) (eqb kind 0x22) (eqb kind 0x23) g e
     (λ t. eqb-true kind 0x21 t) (λ t. eqb-true kind 0x22 t) (λ t. eqb-true kind 0x23 t)
 
-pub kind_of_lem : (g : Geometry) → stored_geometry (stored_kind g) ≡ listed.Of g
+pub kind_of_lem : (g : Geometry) → stored_geometry (stored_kind g) ≡ Some g
 unfolding stored_geometry
 kind_of_lem Of3By2 = refl
 kind_of_lem Of16By240 = refl
@@ -50,13 +50,13 @@ kind_of_lem Of32By480 = refl
 both : (k L a b : ℕ) → (eqb k a && eqb L b) ≡ true → (k ≡ a) × (L ≡ b)
 both k L a b t = let (p, q) = and_true (eqb k a) (eqb L b) t in (eqb-true k a p, eqb-true L b q)
 
-pub sizes_are : (k L : ℕ) (g : Geometry) → size_geometry k L ≡ listed.Of g → (k ≡ pieces_of g) × (L ≡ length_of g)
+pub sizes_are : (k L : ℕ) (g : Geometry) → size_geometry k L ≡ Some g → (k ≡ pieces_of g) × (L ≡ length_of g)
 unfolding size_geometry
 sizes_are k L g e =
     first_of (λ h. (k ≡ pieces_of h) × (L ≡ length_of h)) (eqb k 3 && eqb L 2) (eqb k 16 && eqb L 240) (eqb k 32 && eqb L 480) g e
     (both k L 3 2) (both k L 16 240) (both k L 32 480)
 
-pub sizes_of : (g : Geometry) → size_geometry (pieces_of g) (length_of g) ≡ listed.Of g
+pub sizes_of : (g : Geometry) → size_geometry (pieces_of g) (length_of g) ≡ Some g
 unfolding size_geometry
 sizes_of Of3By2 = refl
 sizes_of Of16By240 = refl

@@ -8,30 +8,9 @@ ghost use Rattle.decoder.specs.Records.{k_of, l_of, bad_state};
 ghost use Rattle.stored.specs.Forms.{stored_kind, matrix_size, form_size, stored_geometry, size_geometry, form_of, form_taken, form_decoder};
 ghost use Rattle.stored.specs.Entries.{bad_form, Saving, Loading};
 
-use answers::Answer;
+use answers::RLNCError;
 use decoder::{Decoder, ReceivedPieceCount, UsefulPieceCount};
 use stream::Geometry;
-
-// How many bytes were written.
-#[derive(Clone, Copy)]
-pub enum Saved {
-    Bytes(usize),
-    Refused(Answer),
-}
-
-// The decoder beside the matrix that was filled.
-#[derive(Clone, Copy)]
-pub enum Loaded {
-    Of(Decoder),
-    Refused(Answer),
-}
-
-// The geometry of a stored kind or of a decoder's sizes, where they are listed.
-#[derive(Clone, Copy)]
-enum Listed {
-    Of(Geometry),
-    Unlisted,
-}
 
 fn stored_kind(g: Geometry) -> u8
     ensures { result ≡ stored_kind g }
@@ -47,11 +26,7 @@ fn stored_kind(g: Geometry) -> u8
 fn matrix_len(g: Geometry) -> usize
     ensures { result ≡ matrix_size g }
 {
-    match g {
-        Geometry::Of3By2 => 15,
-        Geometry::Of16By240 => 4096,
-        Geometry::Of32By480 => 16384,
-    }
+    g.piece_count() * g.body_len()
 }
 
 // The bytes of the whole form, its kind included.
@@ -61,32 +36,34 @@ fn form_len(g: Geometry) -> usize
     4 + matrix_len(g)
 }
 
+// The geometry of a stored kind, if it is listed.
 #[tactic(auto, unfolding(crate::specs::Forms::stored_geometry))]
-fn of_kind(kind: u8) -> Listed
+fn of_kind(kind: u8) -> Option<Geometry>
     ensures { result ≡ stored_geometry kind }
 {
     match kind {
-        0x21 => Listed::Of(Geometry::Of3By2),
-        0x22 => Listed::Of(Geometry::Of16By240),
-        0x23 => Listed::Of(Geometry::Of32By480),
-        _ => Listed::Unlisted,
+        0x21 => Some(Geometry::Of3By2),
+        0x22 => Some(Geometry::Of16By240),
+        0x23 => Some(Geometry::Of32By480),
+        _ => None,
     }
 }
 
+// The geometry of a decoder of these sizes, if it is listed.
 #[tactic(auto, unfolding(crate::specs::Forms::size_geometry))]
-fn of_sizes(piece_count: usize, piece_byte_len: usize) -> Listed
+fn of_sizes(piece_count: usize, piece_byte_len: usize) -> Option<Geometry>
     ensures { result ≡ size_geometry piece_count piece_byte_len }
 {
     if piece_count == 3 && piece_byte_len == 2 {
-        return Listed::Of(Geometry::Of3By2);
+        return Some(Geometry::Of3By2);
     }
     if piece_count == 16 && piece_byte_len == 240 {
-        return Listed::Of(Geometry::Of16By240);
+        return Some(Geometry::Of16By240);
     }
     if piece_count == 32 && piece_byte_len == 480 {
-        return Listed::Of(Geometry::Of32By480);
+        return Some(Geometry::Of32By480);
     }
-    Listed::Unlisted
+    None
 }
 
 // The held bytes of a matrix, then zeros.
@@ -115,22 +92,20 @@ fn put_form(g: Geometry, d: Decoder, elements: &[u8], out: &mut [u8])
     put_matrix(elements, rows * g.body_len(), &mut out[4..e]);
 }
 
-// The form of a decoder in a good state and of a listed size, at the front of `out`.
-pub fn save(d: Decoder, elements: &[u8], out: &mut [u8]) -> Saved
+// The form of a decoder in a good state and of a listed size, at the front of `out`: how many bytes were written.
+pub fn save(d: Decoder, elements: &[u8], out: &mut [u8]) -> Result<usize, RLNCError>
     ensures { Saving d elements.now out.old result out.new }
 {
     if !d.holds(elements.len()) {
-        return Saved::Refused(Answer::BadState);
+        return Err(RLNCError::BadState);
     }
-    let Listed::Of(g) = of_sizes(d.required_piece_count, d.piece_byte_len) else {
-        return Saved::Refused(Answer::UnknownKind);
-    };
+    let g = of_sizes(d.required_piece_count, d.piece_byte_len).ok_or(RLNCError::UnknownKind)?;
     let n = form_len(g);
     if out.len() < n {
-        return Saved::Refused(Answer::NoRoom);
+        return Err(RLNCError::NoRoom);
     }
     put_form(g, d, elements, out);
-    Saved::Bytes(n)
+    Ok(n)
 }
 
 // The taken count: high byte first.
@@ -176,26 +151,22 @@ fn decoder_in(g: Geometry, form: &[u8]) -> Decoder
 }
 
 // The decoder of a form, its matrix at the front of `elements`.
-pub fn load(form: &[u8], elements: &mut [u8]) -> Loaded
+pub fn load(form: &[u8], elements: &mut [u8]) -> Result<Decoder, RLNCError>
     ensures { Loading form.now elements.old result elements.new }
 {
-    if form.len() == 0 {
-        return Loaded::Refused(Answer::CutRecord);
-    }
-    let Listed::Of(g) = of_kind(form[0]) else {
-        return Loaded::Refused(Answer::UnknownKind);
-    };
+    let kind = form.first().ok_or(RLNCError::CutRecord)?;
+    let g = of_kind(*kind).ok_or(RLNCError::UnknownKind)?;
     let e = form_len(g);
     if form.len() < e {
-        return Loaded::Refused(Answer::CutRecord);
+        return Err(RLNCError::CutRecord);
     }
     let n = matrix_len(g);
     if elements.len() < n {
-        return Loaded::Refused(Answer::NoRoom);
+        return Err(RLNCError::NoRoom);
     }
     if is_bad_form(g, form) {
-        return Loaded::Refused(Answer::BadState);
+        return Err(RLNCError::BadState);
     }
     elements[..n].copy_from_slice(&form[4..e]);
-    Loaded::Of(decoder_in(g, form))
+    Ok(decoder_in(g, form))
 }

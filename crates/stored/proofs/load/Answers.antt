@@ -1,7 +1,6 @@
 -- `stored::load` meets its contract: the tests are the definition's, in its order, and nothing is written before the last of them.
-use Rattle.std.proofs.Common.{◌≡◌, ◌++◌, ◌-◌, ◌≤◌, ◌<◌, sym, ◌∙◌, length, take, drop, subst, arith}
+use Rattle.std.proofs.Common.{◌≡◌, ◌++◌, ◌-◌, ◌≤◌, ◌<◌, sym, ◌∙◌, length, take, drop, subst, arith, Ok}
 use Rattle.decoder.specs.declared.Decoder.{Decoder}
-use Rattle.stored.specs.declared.Loaded.TheVariants as loaded
 use Rattle.stored.specs.Forms.{matrix_size, form_size, form_matrix}
 use Rattle.stored.specs.Entries.{Loading}
 use Rattle.stored.proofs.Entries.{loads_empty, loads_unlisted, loads_short, loads_no_room, loads_bad, loads}
@@ -39,6 +38,6 @@ returns c =
     let n : c.form_len-e.result - 4 ≡ matrix_size g = omega (arith, c.form_len-e.ensures) in
     let l : c.copy_from_slice.new.self ++ drop c.matrix_len-n.result c.args.elements.now ≡ form_matrix g c.args.form.now ++ drop (matrix_size g) c.args.elements.now =
     λ i. (c.copy_from_slice.ensures.after ∙ (λ j. take (n j) (drop 4 c.args.form.now))) i ++ drop (c.matrix_len-n.ensures i) c.args.elements.now in
-    subst (λ (d : Decoder). Loading c.args.form.now c.args.elements.now (loaded.Of d) (c.copy_from_slice.new.self ++ drop c.matrix_len-n.result c.args.elements.now))
+    subst (λ (d : Decoder). Loading c.args.form.now c.args.elements.now (Ok d) (c.copy_from_slice.new.self ++ drop c.matrix_len-n.result c.args.elements.now))
     (sym c.decoder_in.ensures)
     (loads _ _ c.if-form-eq0.false g (sym c.in-Of.ensures) w h (sym c.if-is_bad_form.ensures) l)

@@ -1,8 +1,7 @@
 -- `stored::save` meets its contract: the tests are the definition's, in its order, and then the form is written.
-use Rattle.std.proofs.Common.{ℕ, ◌≤◌, ◌<◌, sym, length, subst, arith}
+use Rattle.std.proofs.Common.{ℕ, ◌≤◌, ◌<◌, sym, length, subst, arith, Ok}
 use borrow.Author.Tests.{not-true, not-false}
 use Rattle.decoder.specs.Records.{k_of, l_of, bad_state}
-use Rattle.stored.specs.declared.Saved.TheVariants as saved
 use Rattle.stored.specs.Forms.{form_size}
 use Rattle.stored.specs.Entries.{Saving}
 use Rattle.stored.proofs.Forms.{sizes_are}
@@ -26,5 +25,5 @@ put_form-requires-clause-d_value c = sizes_are (k_of c.args.d) (l_of c.args.d) c
 pub returns : goal.returns
 returns c =
     let h : form_size c.in-Of.g ≤ length c.args.out.now = omega (arith, c.form_len-n.ensures) in
-    subst (λ (n : ℕ). Saving c.args.d c.args.elements.now c.args.out.now (saved.Bytes n) c.put_form.new.out) (sym c.form_len-n.ensures)
+    subst (λ (n : ℕ). Saving c.args.d c.args.elements.now c.args.out.now (Ok n) c.put_form.new.out) (sym c.form_len-n.ensures)
     (saves _ _ _ (not-true _ (sym c.if-not-holds.ensures)) c.in-Of.g (sym c.in-Of.ensures) h c.put_form.ensures)
