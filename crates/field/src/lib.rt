@@ -48,17 +48,14 @@ impl Field {
     }
 
     // q times 1, x, .., x^7: a product with q is the sum of those that the other factor's bits choose.
-    #[tactic(auto, using(crate::proofs::Doubled::eight))]
+    #[tactic(auto, using(crate::proofs::Doubled::ends))]
     pub fn multiples(self, q: u8) -> [u8; 8]
         ensures { result ≡ multiples_of (field_of self) q }
     {
-        let m1 = self.times_x(q);
-        let m2 = self.times_x(m1);
-        let m3 = self.times_x(m2);
-        let m4 = self.times_x(m3);
-        let m5 = self.times_x(m4);
-        let m6 = self.times_x(m5);
-        let m7 = self.times_x(m6);
-        [q, m1, m2, m3, m4, m5, m6, m7]
+        let mut m = [q; 8];
+        for i in 1..8 {
+            m[i] = self.times_x(m[i - 1]);
+        }
+        m
     }
 }
