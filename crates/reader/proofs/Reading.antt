@@ -2,13 +2,13 @@
 -- Assumes nothing.
 use mathlib.Core.Path.{◌≡◌, refl, subst}
 use mathlib.Core.Bool.{Bool, true, false}
-use mathlib.Core.List.{List, [], ◌∷◌}
+use mathlib.Core.List.{List}
 use Prim.Native.Nat.{ℕ, ◌+◌, ◌≤◌, ◌<◌}
 use native.Mathlib.Omega.{arith}
 use borrow.Author.Tests.{lt-ltb, le-ltb, ltb-false}
 use lib.Dec.{ltb}
-use lib.ListN.{length, get_or, drop}
-use Rattle.std.specs.Prelude.{Option, Some, Result, Ok, Err}
+use lib.ListN.{length, drop}
+use Rattle.std.specs.Prelude.{Some, Result, Ok, Err}
 use Rattle.answers.specs.declared.RLNCError.{RLNCError}
 use Rattle.answers.specs.declared.RLNCError.TheVariants.{BadState, CutRecord}
 use Rattle.linear.specs.Choice.{pick}
@@ -18,7 +18,6 @@ use Rattle.stream.specs.declared.Record.{Record}
 use Rattle.stream.specs.declared.Record.TheVariants as record·
 use Rattle.stream.specs.Geometries.{body_of}
 use Rattle.stream.specs.Streams.{largest}
-use Rattle.stream.specs.Records.{kind_record}
 use Rattle.reader.specs.declared.Place.{Place}
 use Rattle.reader.specs.declared.Place.TheVariants as place·
 use Rattle.reader.specs.declared.Reader.{Reader}
@@ -33,18 +32,6 @@ pub body_short : (g : Geometry) → body_of g ≤ longest
 body_short Of3By2 = omega arith
 body_short Of16By240 = omega arith
 body_short Of32By480 = omega arith
-
--- ---- a kind byte, or none
-
-pub no_byte : (so_far : Option Geometry) (bytes : List ℕ) → length bytes ≡ 0 → Err CutRecord ≡ opened_by so_far bytes
-unfolding opened_by
-no_byte so_far [] e = refl
-no_byte so_far (kind ∷ behind) e = absurd (omega arith)
-
-pub a_byte : (so_far : Option Geometry) (bytes : List ℕ) → (length bytes ≡ 0 → ⊥) → kind_record so_far (get_or bytes 0 0) longest ≡ opened_by so_far bytes
-unfolding opened_by
-a_byte so_far [] h = absurd (h refl)
-a_byte so_far (kind ∷ behind) h = refl
 
 -- ---- a body, and what is wanted
 

@@ -4,7 +4,7 @@
 #![tactic(auto)]
 
 ghost use Rattle.std.specs.Prelude.{◌≡◌};
-ghost use Rattle.reader.specs.Reading.{started, wanted, opened_by, wanting_at, on, body_brings, progress};
+ghost use Rattle.reader.specs.Reading.{started, wanted, opened_by, on, body_brings, progress};
 
 use answers::RLNCError;
 use stream::{Geometry, Record};
@@ -72,8 +72,7 @@ impl Reader {
     pub fn wants(self) -> usize
         ensures { result ≡ wanted self.place }
     {
-        let place = self.place;
-        match place {
+        match self.place {
             Place::Start => 1,
             Place::Body(g) => g.body_len() + 1,
             Place::Done => 0,
@@ -89,10 +88,8 @@ impl Reader {
         if self.wants() < input.len() {
             return Err(RLNCError::BadState);
         }
-        let place = self.place;
-        let seen = self.seen;
-        match place {
-            Place::Start => Ok(self.next(Came::Start, opened(seen, input))),
+        match self.place {
+            Place::Start => Ok(self.next(Came::Start, opened(self.seen, input))),
             Place::Body(g) => self.body(g, input),
             Place::Done => Err(RLNCError::BadState),
         }
@@ -104,21 +101,13 @@ impl Reader {
         ensures { result ≡ body_brings g self input.now }
     {
         let n = g.body_len();
-        if input.len() < n {
+        let Some(rest) = input.get(n..) else {
             return Ok(self.next(Came::Cut, Err(RLNCError::CutRecord)));
-        }
-        let end = n as u64 + 1;
-        let at = self.at;
-        if u64::MAX - at < end {
-            return Err(RLNCError::BadState);
-        }
-        let seen = Some(g);
-        let behind = Reader {
-            place: Place::Start,
-            seen,
-            at: at + end,
         };
-        Ok(behind.next(Came::Piece(g), opened(seen, &input[n..])))
+        let end = n as u64 + 1;
+        let at = self.at.checked_add(end).ok_or(RLNCError::BadState)?;
+        let seen = Some(g);
+        Ok(Reader { seen, at, ..self }.next(Came::Piece(g), opened(seen, rest)))
     }
 
     // A record was opened at the offset.
@@ -132,24 +121,20 @@ impl Reader {
             Err(e) => (Place::Done, Then::Stop(e)),
         };
         Progress {
-            reader: self.wanting(place),
+            reader: Reader { place, ..self },
             came,
             then,
         }
     }
-
-    fn wanting(self, place: Place) -> Reader
-        ensures { result ≡ wanting_at self.seen self.at place }
-    {
-        Reader { place, ..self }
-    }
 }
 
 // The record that a kind byte opens, its body still to come; 25 where the input has ended.
-#[tactic(auto, using(crate::proofs::Reading::no_byte, crate::proofs::Reading::a_byte))]
+#[tactic(auto, unfolding(crate::specs::Reading::opened_by))]
 fn opened(so_far: Option<Geometry>, input: &[u8]) -> Result<Record, RLNCError>
     ensures { result ≡ opened_by so_far input.now }
 {
-    let kind = input.first().ok_or(RLNCError::CutRecord)?;
-    stream::read_kind(so_far, *kind, BODY_LEN)
+    match input {
+        [kind, ..] => stream::read_kind(so_far, *kind, BODY_LEN),
+        [] => Err(RLNCError::CutRecord),
+    }
 }

@@ -85,10 +85,7 @@ impl TryFrom<u8> for Geometry {
 fn fits(so_far: Option<Geometry>, g: Geometry) -> bool
     ensures { result ≡ fits_in so_far g }
 {
-    match so_far {
-        None => true,
-        Some(h) => h == g,
-    }
+    so_far.is_none_or(|h| h == g)
 }
 
 // A piece of the geometry, with so many bytes behind its kind.
@@ -123,10 +120,10 @@ pub fn read_kind(so_far: Option<Geometry>, kind: u8, behind: usize) -> Result<Re
 pub fn read(so_far: Option<Geometry>, bytes: &[u8]) -> Result<Record, RLNCError>
     ensures { result ≡ record_at so_far bytes.now }
 {
-    if 0 < bytes.len() {
-        return read_kind(so_far, bytes[0], bytes.len() - 1);
+    match bytes {
+        [kind, behind @ ..] => read_kind(so_far, *kind, behind.len()),
+        [] => Err(RLNCError::CutRecord),
     }
-    Err(RLNCError::CutRecord)
 }
 
 // The record of a piece: its kind, then the piece.
