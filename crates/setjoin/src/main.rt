@@ -75,7 +75,12 @@ fn reports_unread(rt: &HostRuntime, e: &io::Error) -> bool {
 }
 
 // Writes the text out where the longest of a turn has no room behind it, or at once. How much of the buffer is used then.
-fn make_room(rt: &HostRuntime, mode: Mode, out: &[u8; OUT_LEN], used: usize) -> Result<usize, Failure>
+fn make_room(
+    rt: &HostRuntime,
+    mode: Mode,
+    out: &[u8; OUT_LEN],
+    used: usize,
+) -> Result<usize, Failure>
     requires { used ≤ OUT_LEN }
     ensures { IfOk result (λ n. n + text_room ≤ OUT_LEN) }
 {
