@@ -27,10 +27,9 @@ fn pad(data: &[u8], block: &mut [u8])
     ensures { block.new ≡ filled marker (length block.old) «data».now }
 {
     let n = data.len();
-    let behind = n + 1;
     block[..n].copy_from_slice(data);
     block[n] = BOUNDARY_MARKER;
-    rows::clear(&mut block[behind..]);
+    block[n + 1..].fill(0);
 }
 
 impl Encoder {
@@ -63,7 +62,7 @@ impl Encoder {
     }
 
     // The data is the block already.
-    #[tactic(auto, using(crate::proofs::Outcomes::unpadded_refused, crate::proofs::Outcomes::unpadded_made), unfolding(crate::specs::Entries::unpadded_refusal))]
+    #[tactic(auto, unfolding(crate::specs::Entries::unpadded_refusal, crate::specs::Made::made))]
     pub fn without_padding(data: &[u8], piece_count: usize) -> Result<Encoder, RLNCError>
         ensures { NewUnpadded (length «data».now) piece_count result }
     {
@@ -88,7 +87,6 @@ impl Encoder {
     }
 
     // Refused where the record's numbers are bad.
-    #[tactic(auto, unfolding(block::specs::Counts::counted))]
     fn checked(self) -> Answer
         ensures { result ≡ pick (sized self.piece_count self.piece_byte_len) (Ok tt) (Err BadState) }
     {
@@ -136,7 +134,7 @@ impl Encoder {
     }
 
     // The payload of the piece that the vector codes.
-    #[tactic(auto, using(crate::proofs::Outcomes::code_refused), unfolding(crate::specs::Entries::code_refusal))]
+    #[tactic(auto, unfolding(crate::specs::Entries::code_refusal))]
     pub fn code_with_coding_vector(
         self,
         f: Field,
@@ -157,7 +155,7 @@ impl Encoder {
     }
 
     // The whole piece: the vector, then the payload that it codes.
-    #[tactic(auto, using(crate::proofs::Outcomes::code_whole_refused), unfolding(crate::specs::Entries::code_whole_refusal))]
+    #[tactic(auto, unfolding(crate::specs::Entries::code_whole_refusal))]
     pub fn code_with_buf(
         self,
         f: Field,

@@ -21,7 +21,7 @@ pub struct Recoder {
 
 impl Recoder {
     // For the whole pieces at the front of the data.
-    #[tactic(auto, using(crate::proofs::Outcomes::new_refused, crate::proofs::Outcomes::new_made), unfolding(crate::specs::Entries::new_refusal))]
+    #[tactic(auto, unfolding(crate::specs::Entries::new_refusal, crate::specs::Made::made))]
     pub fn new(
         data: &[u8],
         full_coded_piece_byte_len: usize,
@@ -29,7 +29,8 @@ impl Recoder {
     ) -> Result<Recoder, RLNCError>
         ensures { NewRecoder (length «data».now) full_coded_piece_byte_len num_pieces_coded_together result }
     {
-        if data.len() == 0 {
+        let n = data.len();
+        if n == 0 {
             return Err(RLNCError::NotEnoughPiecesToRecode);
         }
         if full_coded_piece_byte_len == 0 {
@@ -41,7 +42,7 @@ impl Recoder {
         if full_coded_piece_byte_len <= num_pieces_coded_together {
             return Err(RLNCError::PieceLengthTooShort);
         }
-        let num_pieces_received = data.len() / full_coded_piece_byte_len;
+        let num_pieces_received = n / full_coded_piece_byte_len;
         if num_pieces_received == 0 {
             return Err(RLNCError::NotEnoughPiecesToRecode);
         }
@@ -101,7 +102,7 @@ impl Recoder {
         Ok(self.num_pieces_received)
     }
 
-    #[tactic(auto, unfolding(block::specs::Counts::counted))]
+    #[tactic(auto, unfolding(block::specs::Counts::counted, crate::specs::Entries::sound))]
     pub fn get_piece_byte_len(self) -> Result<usize, RLNCError>
         ensures { result ≡ counted (sound self) (self.full_coded_piece_byte_len - self.num_pieces_coded_together) }
     {
@@ -130,7 +131,7 @@ impl Recoder {
     }
 
     // The whole pieces, each times its number, added up.
-    #[tactic(auto, using(crate::proofs::Outcomes::recode_refused), unfolding(crate::specs::Entries::recode_refusal))]
+    #[tactic(auto, unfolding(crate::specs::Entries::recode_refusal))]
     pub fn recode_with_buf(
         self,
         f: Field,
