@@ -1,5 +1,5 @@
 -- Text put into a lent buffer.
-use Rattle.std.specs.Prelude.{◌≡◌, List, ◌++◌, ℕ, ◌+◌, ltb, length, take, drop, Result, Ok, Err}
+use Rattle.std.specs.Prelude.{◌≡◌, List, ◌++◌, ℕ, ltb, length, drop, Result, Ok, Err}
 use Rattle.answers.specs.declared.RLNCError.{RLNCError}
 use Rattle.answers.specs.declared.RLNCError.TheVariants.{NoRoom}
 use Rattle.linear.specs.Choice.{pick}
@@ -8,8 +8,3 @@ use Rattle.linear.specs.Choice.{pick}
 pub record Lined (line out : List ℕ) (r : Result ℕ RLNCError) (last : List ℕ) : Type 0 where
   pub result : r ≡ pick (ltb (length out) (length line)) (Err NoRoom) (Ok (length line))
   pub left : last ≡ pick (ltb (length out) (length line)) out (line ++ drop (length line) out)
-
--- text at a place of a buffer, which has room for it; `end` is the place behind it
-pub record Appended (text line : List ℕ) (at end : ℕ) (last : List ℕ) : Type 0 where
-  pub ends : end ≡ at + length text
-  pub left : last ≡ take at line ++ (text ++ drop end line)

@@ -3,7 +3,7 @@
 ghost use Rattle.std.specs.Prelude.{◌≡◌, ◌≤◌, ◌<◌, length};
 ghost use Rattle.field.specs.FieldOf.{field_of};
 ghost use Rattle.listing.specs.Joining.{nothing};
-ghost use Rattle.listing.specs.Steps.{Counted, Took, Stepped, Finished};
+ghost use Rattle.listing.specs.Steps.{Started, Took, Counted, Stepped, Recovered, Finished};
 
 use crate::LINE_LEN;
 use answers::{Answer, RLNCError};
@@ -66,24 +66,18 @@ impl Joining {
         if u64::MAX <= self.pieces {
             return Err(RLNCError::BadState);
         }
-        let d = match self.held {
-            Some(d) => d,
-            None => Decoder::new(g.piece_byte_len(), g.piece_count(), elements)?,
-        };
-        Ok(self.take(f, d, body, elements, out))
+        let held = self.start(g, elements)?;
+        let (d, answer) = take(f, held, body, elements);
+        Ok(self.count(d, answer, out))
     }
 
-    // Takes a piece with the decoder.
-    fn take(self, f: Field, d: Decoder, body: &[u8], elements: &mut [u8], out: &mut [u8]) -> Step
-        requires in_bounds { 84 ≤ length out.old }
-        requires repeats_le_pieces { self.repeats ≤ self.pieces }
-        requires pieces_bound { self.pieces < 18446744073709551615 }
-        ensures { Took (field_of f) self d body.now elements.old out.old result elements.new out.new }
+    // The decoder that is held, or a new one of the piece's geometry.
+    fn start(self, g: Geometry, elements: &mut [u8]) -> Result<Decoder, RLNCError>
+        ensures { Started self.held g elements.old result elements.new }
     {
-        match d.decode(f, elements, body) {
-            Ok(Taken::Useful(e)) => self.count(e, Ok(()), out),
-            Ok(Taken::NotUseful(e)) => self.count(e, Err(RLNCError::PieceNotUseful), out),
-            Err(e) => self.count(d, Err(e), out),
+        match self.held {
+            Some(d) => Ok(d),
+            None => Decoder::new(g.piece_byte_len(), g.piece_count(), elements),
         }
     }
 
@@ -95,51 +89,54 @@ impl Joining {
         ensures { Counted self d answer out.old result out.new }
     {
         let pieces = self.pieces + 1;
-        let repeats = if answer == Err(RLNCError::PieceNotUseful) {
-            self.repeats + 1
-        } else {
-            self.repeats
-        };
-        let size = crate::piece_line(
-            out,
+        let is_repeat = answer == Err(RLNCError::PieceNotUseful);
+        let repeats = self.repeats + u64::from(is_repeat);
+        let (rows, taken) = (d.useful_piece_count, d.received_piece_count);
+        let size = crate::piece_line(out, pieces, answer, rows, taken).unwrap();
+        let joining = Joining {
+            held: Some(d),
             pieces,
-            answer,
-            d.useful_piece_count,
-            d.received_piece_count,
-        ).unwrap();
-        Step {
-            joining: Joining {
-                held: Some(d),
-                pieces,
-                repeats,
-            },
-            size,
-        }
+            repeats,
+        };
+        Step { joining, size }
     }
 
     // The end of the stream: recovers the data into `data`, and puts the end line and, if there are data, their line. 21 where `out` could be too
     // small for the data that `data` has room for; too small a `data` is recovery's own answer 21, and stands in the end line.
-    pub fn finish(
-        self,
-        elements: &[u8],
-        data: &mut [u8],
-        out: &mut [u8],
-    ) -> Result<End, RLNCError>
+    pub fn finish(self, elements: &[u8], data: &mut [u8], out: &mut [u8]) -> Result<End, RLNCError>
         ensures { Finished self elements.now «data».old out.old result «data».new out.new }
     {
-        if out.len() <= LINE_LEN {
+        if out.len().saturating_sub(LINE_LEN) <= 2 * data.len() {
             return Err(RLNCError::NoRoom);
         }
-        if (out.len() - LINE_LEN - 1) / 2 < data.len() {
-            return Err(RLNCError::NoRoom);
+        match self.recover(elements, data) {
+            Ok(n) => {
+                let size = crate::data_lines(out, &data[..n], self.repeats)?;
+                Ok(End::Data(n, size))
+            }
+            Err(e) => {
+                let size = crate::end_line(out, Err(e), 0, self.repeats)?;
+                Ok(End::Alone(size))
+            }
         }
-        let found = match self.held {
-            Some(d) => d.get_decoded_data(elements, data),
-            None => Err(RLNCError::NotAllPiecesReceivedYet),
-        };
-        match found {
-            Ok(n) => crate::data_lines(out, &data[..n], self.repeats).map(|size| End::Data(n, size)),
-            Err(e) => crate::end_line(out, Err(e), 0, self.repeats).map(|size| End::Alone(size)),
-        }
+    }
+
+    // Recovers the data: 10 where no piece has come.
+    fn recover(self, elements: &[u8], data: &mut [u8]) -> Result<usize, RLNCError>
+        ensures { Recovered self.held elements.now «data».old result «data».new }
+    {
+        let d = self.held.ok_or(RLNCError::NotAllPiecesReceivedYet)?;
+        d.get_decoded_data(elements, data)
+    }
+}
+
+// Takes a piece with the decoder: the record to go on with, and the answer.
+fn take(f: Field, d: Decoder, body: &[u8], elements: &mut [u8]) -> (Decoder, Answer)
+    ensures { Took (field_of f) d body.now elements.old result elements.new }
+{
+    match d.decode(f, elements, body) {
+        Ok(Taken::Useful(next)) => (next, Ok(())),
+        Ok(Taken::NotUseful(next)) => (next, Err(RLNCError::PieceNotUseful)),
+        Err(e) => (d, Err(e)),
     }
 }

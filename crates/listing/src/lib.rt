@@ -1,24 +1,42 @@
 // The text that `setjoin` prints: its lines, each put at the front of a lent buffer.
 #![tactic(auto)]
 
-ghost use Rattle.std.specs.Prelude.{◌++◌, ◌+◌, ◌*◌, ◌≤◌, length};
+ghost use Rattle.std.specs.Prelude.{◌≡◌, ◌++◌, ◌+◌, ◌*◌, ◌≤◌, length, [], ◌∷◌, ◌<◌};
 ghost use Rattle.answers.specs.Number.{code_of, number_of};
+ghost use Rattle.arrayvec.specs.ArrayString.{array_string_len};
+ghost use Rattle.listing.specs.Text.{decimal};
 ghost use Rattle.listing.specs.Lines.{header_line, piece_line, end_line, stop_line, data_line};
 ghost use Rattle.listing.specs.Puts.{Lined};
 
 use answers::{Answer, RLNCError};
+use arrayvec::ArrayString;
 use decoder::{ReceivedPieceCount, UsefulPieceCount};
+use itoa::Buffer;
 
 pub mod join;
-mod text;
 
 // The longest line of numbers: four of 20 digits, and a byte behind each.
 pub const LINE_LEN: usize = 84;
 
+type Line = ArrayString<LINE_LEN>;
+
+// Puts the decimal digits of n behind the line, and a byte behind them.
+fn put_number(line: &mut Line, n: u64, behind: char)
+    requires room { array_string_len line.old + 21 ≤ 84 }
+    requires ascii { behind < 128 }
+    ensures appended { line.new.bytes ≡ line.old.bytes ++ (decimal n ++ (behind ∷ [])) }
+    ensures upper_bound { array_string_len line.new ≤ array_string_len line.old + 21 }
+{
+    let mut digits = Buffer::new();
+    line.push_str(digits.format(n));
+    line.push(behind);
+}
+
 // Copies a line to the front of `out`: 21 where that is shorter.
-fn put_line(line: &[u8], out: &mut [u8]) -> Result<usize, RLNCError>
+fn put_line(line: &str, out: &mut [u8]) -> Result<usize, RLNCError>
     ensures { Lined line.now out.old result out.new }
 {
+    let line = line.as_bytes();
     if out.len() < line.len() {
         return Err(RLNCError::NoRoom);
     }
@@ -29,10 +47,11 @@ fn put_line(line: &[u8], out: &mut [u8]) -> Result<usize, RLNCError>
 pub fn header_line(out: &mut [u8]) -> Result<usize, RLNCError>
     ensures { Lined header_line out.old result out.new }
 {
-    put_line(b"n answer rows taken\n", out)
+    put_line("n answer rows taken\n", out)
 }
 
 // A piece's line: its ordinal, the answer to it, and rows and taken after it.
+#[tactic(auto, unfolding(crate::specs::Lines::piece_line))]
 pub fn piece_line(
     out: &mut [u8],
     n: u64,
@@ -42,50 +61,54 @@ pub fn piece_line(
 ) -> Result<usize, RLNCError>
     ensures { Lined (piece_line n (number_of answer) rows.0 taken.0) out.old result out.new }
 {
-    let mut line = [0u8; LINE_LEN];
-    let at = text::put_number(&mut line, 0, n, b' ');
-    let at = text::put_number(&mut line, at, answers::number(answer) as u64, b' ');
-    let at = text::put_number(&mut line, at, rows.0 as u64, b' ');
-    let at = text::put_number(&mut line, at, taken.0 as u64, b'\n');
-    put_line(&line[..at], out)
+    let mut line = Line::new();
+    put_number(&mut line, n, ' ');
+    put_number(&mut line, u64::from(answers::number(answer)), ' ');
+    put_number(&mut line, rows.0 as u64, ' ');
+    put_number(&mut line, taken.0 as u64, '\n');
+    put_line(line.as_str(), out)
 }
 
 // The line of the end record: recovery's answer, how many bytes of data there are, and the number of answers 8.
-pub fn end_line(out: &mut [u8], answer: Answer, size: usize, repeats: u64) -> Result<usize, RLNCError>
+#[tactic(auto, unfolding(crate::specs::Lines::end_line))]
+pub fn end_line(
+    out: &mut [u8],
+    answer: Answer,
+    size: usize,
+    repeats: u64,
+) -> Result<usize, RLNCError>
     ensures { Lined (end_line (number_of answer) size repeats) out.old result out.new }
 {
-    let mut line = [0u8; LINE_LEN];
-    let at = 4;
-    line[..at].copy_from_slice(b"end ");
-    let at = text::put_number(&mut line, at, answers::number(answer) as u64, b' ');
-    let at = text::put_number(&mut line, at, size as u64, b' ');
-    let at = text::put_number(&mut line, at, repeats, b'\n');
-    put_line(&line[..at], out)
+    let mut line = Line::new();
+    line.push_str("end ");
+    put_number(&mut line, u64::from(answers::number(answer)), ' ');
+    put_number(&mut line, size as u64, ' ');
+    put_number(&mut line, repeats, '\n');
+    put_line(line.as_str(), out)
 }
 
 // The line of a stream that stops: the error's number, and the byte offset of the record that got it.
+#[tactic(auto, unfolding(crate::specs::Lines::stop_line))]
 pub fn stop_line(out: &mut [u8], error: RLNCError, at: u64) -> Result<usize, RLNCError>
     ensures { Lined (stop_line (code_of error) at) out.old result out.new }
 {
-    let mut line = [0u8; LINE_LEN];
-    let end = 5;
-    line[..end].copy_from_slice(b"stop ");
-    let end = text::put_number(&mut line, end, error.number() as u64, b' ');
-    let end = text::put_number(&mut line, end, at, b'\n');
-    put_line(&line[..end], out)
+    let mut line = Line::new();
+    line.push_str("stop ");
+    put_number(&mut line, u64::from(error.number()), ' ');
+    put_number(&mut line, at, '\n');
+    put_line(line.as_str(), out)
 }
 
 // The data in lower-case hexadecimal.
+#[tactic(auto, using(crate::proofs::Hex::length_data_line))]
 pub fn data_line(out: &mut [u8], data: &[u8]) -> Result<usize, RLNCError>
     ensures { Lined (data_line «data».now) out.old result out.new }
 {
-    if out.len() == 0 {
+    let end = 2 * data.len();
+    if out.len() <= end {
         return Err(RLNCError::NoRoom);
     }
-    if (out.len() - 1) / 2 < data.len() {
-        return Err(RLNCError::NoRoom);
-    }
-    let end = text::put_hex(out, data);
+    hex::encode_to_slice(data, &mut out[..end]).unwrap();
     out[end] = b'\n';
     Ok(end + 1)
 }
