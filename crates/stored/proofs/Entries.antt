@@ -9,7 +9,7 @@ use native.Mathlib.Omega.{arith}
 use lib.Dec.{ltb}
 use lib.ListN.{length, get_or, drop}
 use borrow.Author.Tests.{lt-ltb, le-ltb}
-use Rattle.std.specs.Prelude.{Option, Some, None, Result, Ok, Err}
+use Rattle.std.specs.Prelude.{Some, None, Ok, Err}
 use Rattle.answers.specs.declared.RLNCError.TheVariants.{NoRoom, BadState, UnknownKind, CutRecord}
 use Rattle.stream.specs.declared.Geometry.{Geometry}
 use Rattle.decoder.specs.declared.Decoder.{Decoder}
@@ -59,21 +59,21 @@ module _ (elements : List ℕ) where
   loads_empty [] z = record { result = refl; left = refl }
   loads_empty (kind ∷ rest) z = absurd (omega arith)
 
-  module _ (form : List ℕ) (n : length form ≡ 0 → ⊥) where
+  module _ (form : List ℕ) (n : 0 < length form) where
     told : geometry_in form ≡ stored_geometry (get_or form 0 0)
     unfolding geometry_in
     told = go form n
       where
-        go : (f : List ℕ) → (length f ≡ 0 → ⊥) → geometry_in f ≡ stored_geometry (get_or f 0 0)
-        go [] n = absurd (n refl)
+        go : (f : List ℕ) → 0 < length f → geometry_in f ≡ stored_geometry (get_or f 0 0)
+        go [] n = absurd (omega arith)
         go (kind ∷ rest) n = refl
 
     refusal : (room : ℕ) → load_refusal form room ≡ form_refusal (stored_geometry (get_or form 0 0)) form room
     unfolding load_refusal
     refusal room = go form n
       where
-        go : (f : List ℕ) → (length f ≡ 0 → ⊥) → load_refusal f room ≡ form_refusal (stored_geometry (get_or f 0 0)) f room
-        go [] n = absurd (n refl)
+        go : (f : List ℕ) → 0 < length f → load_refusal f room ≡ form_refusal (stored_geometry (get_or f 0 0)) f room
+        go [] n = absurd (omega arith)
         go (kind ∷ rest) n = refl
 
     pub loads_unlisted : stored_geometry (get_or form 0 0) ≡ None → Loading form elements (Err UnknownKind) elements

@@ -11,7 +11,7 @@ use lib.Dec.{eqb}
 use lib.ListN.{length, take, drop, replicate, length-append, length-replicate}
 use lib.Seq.{take-nil, length-take-le}
 use borrow.Author.Tests.{eqb-true}
-use Rattle.std.specs.Prelude.{Option, Some, None}
+use Rattle.std.specs.Prelude.{Some, None}
 use Rattle.linear.specs.Choice.{pick}
 use Rattle.linear.specs.Buffer.{flat}
 use Rattle.linear.proofs.Flat.{flat_front}

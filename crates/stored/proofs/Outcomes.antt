@@ -3,12 +3,13 @@
 use mathlib.Core.Path.{◌≡◌, refl}
 use mathlib.Core.Bool.{Bool, true, false}
 use mathlib.Core.List.{List, ◌++◌}
-use Prim.Native.Nat.{ℕ, ◌≤◌}
+use Prim.Native.Nat.{ℕ, ◌≤◌, ◌<◌}
+use native.Mathlib.Nat.{pos_of_ne-zero}
 use native.Mathlib.Omega.{arith}
 use lib.Dec.{ltb}
 use lib.ListN.{length, get_or, drop}
 use borrow.Author.Tests.{ltb-true, ltb-false}
-use Rattle.std.specs.Prelude.{Option, Some, None, Result, Ok, Err}
+use Rattle.std.specs.Prelude.{Option, Some, None, Ok, Err}
 use Rattle.answers.specs.declared.RLNCError.{RLNCError}
 use Rattle.stream.specs.declared.Geometry.{Geometry}
 use Rattle.decoder.specs.declared.Decoder.{Decoder}
@@ -68,8 +69,8 @@ module _ (form elements : List ℕ) (d : Decoder) (last : List ℕ) (l : Loading
   pub was_loaded : WasLoaded form elements d last
   was_loaded = go (stored_geometry (get_or form 0 0)) refl
     where
-      some : length form ≡ 0 → ⊥
-      some z = no_refusal _ _ (loads_empty elements form z)
+      some : 0 < length form
+      some = pos_of_ne-zero (λ z. no_refusal _ _ (loads_empty elements form z))
 
       counts : (g : Geometry) → stored_geometry (get_or form 0 0) ≡ Some g → form_size g ≤ length form → matrix_size g ≤ length elements
           → (b : Bool) → bad_form g form ≡ b → WasLoaded form elements d last

@@ -145,7 +145,7 @@ module _ {d : Decoder} {elements out out' : List ℕ} {n : ℕ} (s : Saving d el
       let fits : matrix_size g ≤ length matrix = subst (λ (m : ℕ). m ≤ length matrix) (whole_matrix g d elements k_is l_is) room in
       let (e, m) =
       loaded_once l'
-      (loads matrix (form_of g d elements ++ behind) (λ z. omega (arith, z, w)) g (kind g d elements behind k_is l_is h) w fits
+      (loads matrix (form_of g d elements ++ behind) (omega (arith, w)) g (kind g d elements behind k_is l_is h) w fits
       (fine g d elements behind k_is l_is h) refl) in
       (e ∙ ap Ok (decoder_is g d elements behind k_is l_is h), m ∙ filled g d elements behind k_is l_is h matrix)
 
@@ -177,7 +177,7 @@ first_four [] h = absurd (omega arith)
 first_four (a ∷ []) h = absurd (omega arith)
 first_four (a ∷ b ∷ []) h = absurd (omega arith)
 first_four (a ∷ b ∷ c ∷ []) h = absurd (omega arith)
-first_four (a ∷ b ∷ c ∷ d ∷ rest) h = refl
+first_four (a ∷ b ∷ c ∷ d ∷ _) h = refl
 
 module _ (g : Geometry) (form elements : List ℕ) (bytes : Bytes form) (w : form_size g ≤ length form) (bad : bad_form g form ≡ false) where
   abbrev rows : ℕ

@@ -67,29 +67,27 @@ fn of_sizes(piece_count: usize, piece_byte_len: usize) -> Option<Geometry>
 }
 
 // The held bytes of a matrix, then zeros.
-fn put_matrix(elements: &[u8], held: usize, part: &mut [u8])
-    requires { (held ≤ length elements.now) × (held ≤ length part.old) }
-    ensures { part.new ≡ take held elements.now ++ replicate (length part.old - held) 0 }
+fn put_matrix(held: &[u8], part: &mut [u8])
+    requires { length held.now ≤ length part.old }
+    ensures { part.new ≡ held.now ++ replicate (length part.old - length held.now) 0 }
 {
-    part[..held].copy_from_slice(&elements[..held]);
-    rows::clear(&mut part[held..]);
+    let (front, behind) = part.split_at_mut(held.len());
+    front.copy_from_slice(held);
+    behind.fill(0);
 }
 
-// The form of a decoder of this geometry, at the front of `out`.
-fn put_form(g: Geometry, d: Decoder, elements: &[u8], out: &mut [u8])
+// The form of a decoder of this geometry.
+fn put_form(g: Geometry, d: Decoder, elements: &[u8], form: &mut [u8])
     requires d_value { (k_of d ≡ pieces_of g) × (l_of d ≡ length_of g) }
     requires elements_value { bad_state d (length elements.now) ≡ false }
-    requires g_in_bounds { form_size g ≤ length out.old }
-    ensures { out.new ≡ form_of g d elements.now ++ drop (form_size g) out.old }
+    requires g_in_bounds { length form.old ≡ form_size g }
+    ensures { form.new ≡ form_of g d elements.now }
 {
     let rows = d.useful_piece_count.0;
-    let taken = d.received_piece_count.0;
-    out[0] = stored_kind(g);
-    out[1] = rows as u8;
-    out[2] = (taken / 256) as u8;
-    out[3] = (taken % 256) as u8;
-    let e = form_len(g);
-    put_matrix(elements, rows * g.body_len(), &mut out[4..e]);
+    let [high, low] = (d.received_piece_count.0 as u16).to_be_bytes();
+    let (head, matrix) = form.split_at_mut(4);
+    head.copy_from_slice(&[stored_kind(g), rows as u8, high, low]);
+    put_matrix(&elements[..rows * g.body_len()], matrix);
 }
 
 // The form of a decoder in a good state and of a listed size, at the front of `out`: how many bytes were written.
@@ -99,12 +97,14 @@ pub fn save(d: Decoder, elements: &[u8], out: &mut [u8]) -> Result<usize, RLNCEr
     if !d.holds(elements.len()) {
         return Err(RLNCError::BadState);
     }
-    let g = of_sizes(d.required_piece_count, d.piece_byte_len).ok_or(RLNCError::UnknownKind)?;
+    let Some(g) = of_sizes(d.required_piece_count, d.piece_byte_len) else {
+        return Err(RLNCError::UnknownKind);
+    };
     let n = form_len(g);
     if out.len() < n {
         return Err(RLNCError::NoRoom);
     }
-    put_form(g, d, elements, out);
+    put_form(g, d, elements, &mut out[..n]);
     Ok(n)
 }
 
@@ -114,7 +114,7 @@ fn taken_in(form: &[u8]) -> usize
     requires { 4 ≤ length form.now }
     ensures { result ≡ form_taken form.now }
 {
-    form[2] as usize * 256 + form[3] as usize
+    u16::from_be_bytes([form[2], form[3]]) as usize
 }
 
 // Bad counts, or a nonzero byte behind the held rows.
@@ -154,8 +154,12 @@ fn decoder_in(g: Geometry, form: &[u8]) -> Decoder
 pub fn load(form: &[u8], elements: &mut [u8]) -> Result<Decoder, RLNCError>
     ensures { Loading form.now elements.old result elements.new }
 {
-    let kind = form.first().ok_or(RLNCError::CutRecord)?;
-    let g = of_kind(*kind).ok_or(RLNCError::UnknownKind)?;
+    let [kind, ..] = form else {
+        return Err(RLNCError::CutRecord);
+    };
+    let Some(g) = of_kind(*kind) else {
+        return Err(RLNCError::UnknownKind);
+    };
     let e = form_len(g);
     if form.len() < e {
         return Err(RLNCError::CutRecord);
