@@ -22,6 +22,7 @@ use Rattle.linear.proofs.Buffer.{length_rows_of}
 use Rattle.linear.proofs.Steps.{reduce_le}
 use Rattle.block.specs.Sizes.{over_limit}
 use Rattle.block.specs.Refusal.{answered}
+use Rattle.block.proofs.Bounds.{limited}
 use Rattle.block.proofs.Chosen.{passes}
 use Rattle.decoder.specs.declared.Decoder.{Decoder}
 use Rattle.decoder.specs.declared.Taken.{Taken}
@@ -29,7 +30,7 @@ use Rattle.decoder.specs.declared.Taken.TheVariants.{Useful, NotUseful}
 use Rattle.decoder.specs.Records.{k_of, f_of, rows_in, taken_by, sound, bad_state, held_rows}
 use Rattle.decoder.specs.Answers.{taken_number, takes, kept}
 use Rattle.decoder.specs.Entries.{decoder_of, new_refusal, NewDecoder, take_refusal, rows_after, after, taking, Decoded}
-use Rattle.decoder.proofs.Sound.{Sound, within, shown}
+use Rattle.decoder.proofs.Sound.{Sound, shown}
 use Rattle.decoder.proofs.Accepted.{Accepted, accepted}
 
 -- ---- a new record
@@ -40,12 +41,12 @@ new_sound {L} {k} {elements} {last} {d} h =
     let (fine, same) = made (new_refusal L k (length elements)) h.result in
     let bytes = passes (eqb L 0) (Err PieceLengthZero) _ (omega arith) fine in
     let pieces = passes (eqb k 0) (Err PieceCountZero) _ (omega arith) bytes.1 in
-    let limits = within k L (passes (over_limit k L) (Err SizeOverLimit) _ (omega arith) pieces.1).0 in
+    let limits = limited k L (passes (over_limit k L) (Err SizeOverLimit) _ (omega arith) pieces.1).0 in
     ap sound same ∙ shown (decoder_of k L 0 0) (record {
       some_pieces = eqb-false k 0 pieces.0;
       some_bytes = eqb-false L 0 bytes.0;
-      pieces = limits.0;
-      bytes = limits.1;
+      pieces = limits.pieces;
+      bytes = limits.bytes;
       rows_pieces = omega arith;
       rows_taken = omega arith;
       taken = omega arith;
@@ -115,7 +116,7 @@ module _ {𝓕 : FieldLaws} {d : Decoder} {elements full last : List ℕ} {r : R
   decoded_cases : (P : Result Taken RLNCError → Type 0) → ((e : RLNCError) → takes (code_of e) ≡ 0 → P (Err e))
       → (take_refusal d (length elements) (length full) ≡ Ok tt → P (Ok (taking 𝓕 d elements full))) → P r
   decoded_cases P n t =
-      subst P (sym h.result) (⊎_elim (λ e. rw e (t e)) (λ q. rw q.1.0 (n q.0 q.1.1)) (refusal d (length elements) (length full)))
+      subst P (sym h.result) (⊎_elim (λ e. rw e (t e)) (λ q. rw q.1 (n q.0 q.2)) (refusal d (length elements) (length full)))
 
   -- a record whose numbers are good keeps them good
   pub stays_sound : sound d ≡ true → sound (kept d r) ≡ true

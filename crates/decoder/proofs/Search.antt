@@ -1,17 +1,16 @@
--- The block searched row by row, where it stands: what is behind a row is what is behind its payload.
+-- The block searched row by row: what is behind a row is what is behind its payload.
 -- Assumes nothing.
 use mathlib.Core.Path.{◌≡◌, refl, sym, ap, ◌∙◌}
 use mathlib.Core.Bool.{◌&&◌}
 use mathlib.Core.List.{List, ◌++◌}
-use Prim.Native.Nat.{ℕ, zero, suc, ◌+◌, ◌-◌, ◌*◌, ◌≤◌, ◌<◌}
-use native.Mathlib.Nat.{suc-mul, add-zero}
+use Prim.Native.Nat.{ℕ, zero, suc, ◌+◌, ◌*◌, ◌≤◌, ◌<◌}
+use native.Mathlib.Nat.{suc-mul}
 use native.Mathlib.Numerals.{add-one}
 use native.Mathlib.Omega.{arith}
-use lib.ListN.{length, take, drop, length-drop}
-use lib.Seq.{drop-drop, drop-append-le, length-take-le}
+use lib.ListN.{length, take, drop, take-append-drop}
+use lib.Seq.{drop-drop, drop-append-le}
 use Rattle.std.specs.Prelude.{Some, None, Result, Ok, Err}
 use Rattle.linear.specs.Rows.{all_zero}
-use Rattle.linear.proofs.Buffer.{row_end}
 use Rattle.linear.specs.Choice.{pick}
 use Rattle.block.specs.declared.BrokenPadding.{BrokenPadding}
 use Rattle.block.specs.declared.BrokenPadding.TheVariants.{MarkerAbsent, MarkerFirst, TailNotZero}
@@ -19,44 +18,33 @@ use Rattle.block.specs.Reading.{last_marker, read_at, reading}
 use Rattle.block.proofs.Reading.{Reason, carried, reason}
 use Rattle.block.proofs.LastMarker.{last_front, zero_append}
 use Rattle.decoder.proofs.Marker.{from}
-use Rattle.decoder.proofs.Payload.{payloads, payload, length_payloads, from_row}
 
-module _ (M k L n : ℕ) (buffer : List ℕ) (i m : ℕ) (s : i + 1 ≡ m) (h : i < n) (w : n * (k + L) ≤ length buffer)
-    (e : last_marker M (drop (m * L) (payloads k L n buffer)) ≡ None) where
-  abbrev row : List ℕ
-  row = take L (drop (i * (k + L) + k) buffer)
-
-  -- with no marker in the rows behind
-  of_row : last_marker M (drop (i * L) (payloads k L n buffer)) ≡ last_marker M row
-  of_row =
+-- row i of a block, of L bytes, and what is behind it
+module _ (block : List ℕ) (L i m : ℕ) (s : i + 1 ≡ m) where
+  pub from_row : drop (i * L) block ≡ take L (drop (i * L) block) ++ drop (m * L) block
+  from_row =
       let next : i * L + L ≡ m * L = sym (ap (λ (x : ℕ). x * L) (sym s ∙ add-one i) ∙ suc-mul i L) in
-      ap (last_marker M) (from_row k L n i buffer h w)
-      ∙ last_front M row (drop (i * L + L) (payloads k L n buffer)) (rw next e)
+      sym (take-append-drop L (drop (i * L) block))
+      ∙ ap (λ (l : List ℕ). take L (drop (i * L) block) ++ l) (drop-drop L (i * L) block ∙ ap (λ (n : ℕ). drop n block) next)
 
-  pub row_marked : (j : ℕ) → last_marker M row ≡ Some j → last_marker M (payloads k L n buffer) ≡ Some (i * L + j)
-  row_marked j q = from M (payloads k L n buffer) (i * L) j (omega (arith, length_payloads k L n buffer w, row_end L h)) (of_row ∙ q)
+  -- with no marker behind
+  module _ (M : ℕ) (e : last_marker M (drop (m * L) block) ≡ None) where
+    of_row : last_marker M (drop (i * L) block) ≡ last_marker M (take L (drop (i * L) block))
+    of_row = ap (last_marker M) from_row ∙ last_front M (take L (drop (i * L) block)) (drop (m * L) block) e
 
-  pub row_unmarked : last_marker M row ≡ None → last_marker M (drop (i * L) (payloads k L n buffer)) ≡ None
-  row_unmarked q = of_row ∙ q
+    pub row_marked : i * L ≤ length block → (j : ℕ) → last_marker M (take L (drop (i * L) block)) ≡ Some j → last_marker M block ≡ Some (i * L + j)
+    row_marked h j q = from M block (i * L) j h (of_row ∙ q)
 
--- the bytes from byte `skip` of row i on: the rest of the row, and the rows behind it
-module _ (k L n : ℕ) (buffer : List ℕ) (i skip : ℕ) (h : i < n) (t : skip ≤ L) (w : n * (k + L) ≤ length buffer) where
-  from_byte : drop (i * L + skip) (payloads k L n buffer)
-      ≡ take (L - skip) (drop (i * (k + L) + k + skip) buffer) ++ drop ((i + 1) * L + 0) (payloads k L n buffer)
-  from_byte =
-      let here : List ℕ = drop (i * (k + L) + k) buffer in
-      let long : length (take L here) ≡ L = length-take-le L here (simp length-drop (omega (arith, row_end (k + L) h))) in
-      let enough : skip ≤ length here = simp length-drop (omega (arith, row_end (k + L) h)) in
-      let next : i * L + L ≡ (i + 1) * L + 0 = sym (add-zero ((i + 1) * L) ∙ ap (λ (x : ℕ). x * L) (add-one i) ∙ suc-mul i L) in
-      let whole : skip + (L - skip) ≡ L = omega arith in
-      sym (drop-drop skip (i * L) (payloads k L n buffer)) ∙ ap (drop skip) (from_row k L n i buffer h w)
-      ∙ drop-append-le skip (take L here) (drop (i * L + L) (payloads k L n buffer)) (omega (arith, long))
-      ∙ (λ j. (ap (λ (x : ℕ). drop skip (take x here)) (sym whole) ∙ payload skip (L - skip) here enough
-      ∙ ap (take (L - skip)) (drop-drop skip (i * (k + L) + k) buffer)) j ++ drop (next j) (payloads k L n buffer))
+    pub row_unmarked : last_marker M (take L (drop (i * L) block)) ≡ None → last_marker M (drop (i * L) block) ≡ None
+    row_unmarked q = of_row ∙ q
 
-  pub zero_row : all_zero (drop (i * L + skip) (payloads k L n buffer))
-      ≡ (all_zero (take (L - skip) (drop (i * (k + L) + k + skip) buffer)) && all_zero (drop ((i + 1) * L + 0) (payloads k L n buffer)))
-  zero_row = ap all_zero from_byte ∙ zero_append (take (L - skip) (drop (i * (k + L) + k + skip) buffer)) (drop ((i + 1) * L + 0) (payloads k L n buffer))
+  -- from byte `skip` of the row on: the rest of the row, and what is behind
+  pub zero_row : (skip : ℕ) → skip ≤ length (take L (drop (i * L) block))
+      → all_zero (drop (i * L + skip) block) ≡ (all_zero (drop skip (take L (drop (i * L) block))) && all_zero (drop (m * L) block))
+  zero_row skip h =
+      ap all_zero
+      (sym (drop-drop skip (i * L) block) ∙ ap (drop skip) from_row ∙ drop-append-le skip (take L (drop (i * L) block)) (drop (m * L) block) h)
+      ∙ zero_append (drop skip (take L (drop (i * L) block))) (drop (m * L) block)
 
 -- what the padding tells, by what the searches have found
 module _ (M : ℕ) (block : List ℕ) where

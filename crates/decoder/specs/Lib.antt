@@ -1,4 +1,5 @@
 pub mod Records
 pub mod Answers
 pub mod Entries
+pub mod Payloads
 pub mod Calls

@@ -6,15 +6,15 @@ ghost use Rattle.std.specs.Prelude.{◌≡◌, false, not, ◌+◌, ◌-◌, ◌
 ghost use Rattle.answers.specs.declared.RLNCError.TheVariants.{BadState};
 ghost use Rattle.field.specs.FieldOf.{field_of};
 ghost use Rattle.linear.specs.Choice.{pick};
-ghost use Rattle.linear.specs.Rows.{all_zero};
 ghost use Rattle.block.specs.Padding.{marker};
-ghost use Rattle.block.specs.Reading.{last_marker, reading};
 ghost use Rattle.block.specs.Counts.{counted};
 ghost use Rattle.decoder.specs.Records.{sound, bad_state};
-ghost use Rattle.decoder.specs.Entries.{NewDecoder, take_refusal, Decoded, completed, block_in, Recovery};
+ghost use Rattle.decoder.specs.Entries.{NewDecoder, take_refusal, Decoded, completed, Recovery};
+
+mod block_in;
 
 use answers::{Answer, RLNCError};
-use block::{BOUNDARY_MARKER, BrokenPadding};
+use block_in::BlockIn;
 use decoder_matrix::DecoderMatrix;
 use field::Field;
 
@@ -46,8 +46,12 @@ pub enum Taken {
 
 impl Decoder {
     // A decoder that has taken no piece; its matrix is cleared.
-    #[tactic(auto, using(crate::proofs::Sound::within, crate::proofs::Sound::matrix_small), unfolding(crate::specs::Entries::new_refusal))]
-    pub fn new(piece_byte_len: usize, required_piece_count: usize, elements: &mut [u8]) -> Result<Decoder, RLNCError>
+    #[tactic(auto, using(block::proofs::Bounds::limited, crate::proofs::Sound::matrix_small), unfolding(crate::specs::Entries::new_refusal))]
+    pub fn new(
+        piece_byte_len: usize,
+        required_piece_count: usize,
+        elements: &mut [u8],
+    ) -> Result<Decoder, RLNCError>
         ensures { NewDecoder piece_byte_len required_piece_count elements.old result elements.new }
     {
         if piece_byte_len == 0 {
@@ -63,7 +67,7 @@ impl Decoder {
         if elements.len() < size {
             return Err(RLNCError::NoRoom);
         }
-        rows::clear(&mut elements[..size]);
+        elements[..size].fill(0);
         Ok(Decoder {
             required_piece_count,
             piece_byte_len,
@@ -80,16 +84,10 @@ impl Decoder {
         let k = self.required_piece_count;
         let rows = self.useful_piece_count.0;
         let taken = self.received_piece_count.0;
-        if !block::sizes_fit(k, self.piece_byte_len) {
-            return false;
-        }
-        if k < rows {
-            return false;
-        }
-        if taken < rows {
-            return false;
-        }
-        taken <= TAKEN_LIMIT
+        block::sizes_fit(k, self.piece_byte_len)
+            && rows <= k
+            && rows <= taken
+            && taken <= TAKEN_LIMIT
     }
 
     // They are, and k rows fit into n bytes.
@@ -97,11 +95,8 @@ impl Decoder {
     pub fn holds(self, n: usize) -> bool
         ensures { result ≡ not (bad_state self n) }
     {
-        if !self.is_sound() {
-            return false;
-        }
         let k = self.required_piece_count;
-        k * (k + self.piece_byte_len) <= n
+        self.is_sound() && k * (k + self.piece_byte_len) <= n
     }
 
     // A record with other numbers is refused.
@@ -166,7 +161,12 @@ impl Decoder {
 
     // Takes a piece: a row more, which the rules then reduce with the others.
     #[tactic(auto, using(crate::proofs::Sound::holds), unfolding(crate::specs::Entries::take_refusal))]
-    pub fn decode(self, f: Field, elements: &mut [u8], full_coded_piece: &[u8]) -> Result<Taken, RLNCError>
+    pub fn decode(
+        self,
+        f: Field,
+        elements: &mut [u8],
+        full_coded_piece: &[u8],
+    ) -> Result<Taken, RLNCError>
         ensures { Decoded (field_of f) self elements.old full_coded_piece.now result elements.new }
     {
         if !self.holds(elements.len()) {
@@ -181,13 +181,13 @@ impl Decoder {
         if TAKEN_LIMIT <= self.received_piece_count.0 {
             return Err(RLNCError::TooManyTaken);
         }
-        self.take_piece(f, elements, full_coded_piece)
+        Ok(self.take_piece(f, elements, full_coded_piece))
     }
 
     // The same where nothing refuses it; then neither do the rules.
-    fn take_piece(mut self, f: Field, elements: &mut [u8], full_coded_piece: &[u8]) -> Result<Taken, RLNCError>
+    fn take_piece(self, f: Field, elements: &mut [u8], full_coded_piece: &[u8]) -> Taken
         requires { take_refusal self (length elements.old) (length full_coded_piece.now) ≡ Ok tt }
-        ensures { Decoded (field_of f) self elements.old full_coded_piece.now result elements.new }
+        ensures { Decoded (field_of f) self elements.old full_coded_piece.now (Ok result) elements.new }
     {
         let rows_before = self.useful_piece_count.0;
         let matrix = DecoderMatrix {
@@ -195,16 +195,18 @@ impl Decoder {
             rows: rows_before,
             cols: self.required_piece_count + self.piece_byte_len,
         };
-        let longer = matrix.add_row(elements, full_coded_piece)?;
-        let reduced = longer.rref(f, elements)?;
-        let useful = UsefulPieceCount(reduced.rows);
-        let received = ReceivedPieceCount(self.received_piece_count.0 + 1);
-        self.useful_piece_count = useful;
-        self.received_piece_count = received;
+        let longer = matrix.add_row(elements, full_coded_piece).unwrap();
+        let reduced = longer.rref(f, elements).unwrap();
+        let after = Decoder {
+            useful_piece_count: UsefulPieceCount(reduced.rows),
+            received_piece_count: ReceivedPieceCount(self.received_piece_count.0 + 1),
+            ..self
+        };
         if reduced.rows == rows_before {
-            return Ok(Taken::NotUseful(self));
+            Taken::NotUseful(after)
+        } else {
+            Taken::Useful(after)
         }
-        Ok(Taken::Useful(self))
     }
 
     // As many rows are held as there are pieces.
@@ -230,103 +232,15 @@ impl Decoder {
         if data.len() < self.required_piece_count * self.piece_byte_len {
             return Err(RLNCError::NoRoom);
         }
-        let Ok(n) = self.get_final_data_len(elements) else {
+        let block = BlockIn {
+            k: self.required_piece_count,
+            len: self.piece_byte_len,
+            elements,
+        };
+        let Ok(n) = block.data_len() else {
             return Err(RLNCError::InvalidDecodedDataFormat);
         };
-        self.copy_data(elements, &mut data[..n]);
+        block.copy_to(&mut data[..n]);
         Ok(n)
     }
-
-    // What the padding of the block tells. The block is read where it stands, in the payloads of the rows.
-    fn get_final_data_len(self, elements: &[u8]) -> Result<usize, BrokenPadding>
-        requires { bad_state self (length elements.now) ≡ false }
-        ensures { result ≡ reading marker (block_in self elements.now) }
-    {
-        let Some(n) = self.find_marker(elements) else {
-            return Err(BrokenPadding::MarkerAbsent);
-        };
-        if n == 0 {
-            return Err(BrokenPadding::MarkerFirst);
-        }
-        if self.is_zero_from(elements, n + 1) {
-            Ok(n)
-        } else {
-            Err(BrokenPadding::TailNotZero)
-        }
-    }
-
-    // The index of the block's last marker: rows from the last one up.
-    fn find_marker(self, elements: &[u8]) -> Option<usize>
-        requires { bad_state self (length elements.now) ≡ false }
-        ensures { result ≡ last_marker marker (block_in self elements.now) }
-    {
-        let k = self.required_piece_count;
-        let len = self.piece_byte_len;
-        let mut i = k;
-        while 0 < i {
-            i -= 1;
-            let from = i * (k + len) + k;
-            let to = from + len;
-            if let Some(j) = last_marker(&elements[from..to]) {
-                return Some(i * len + j);
-            }
-        }
-        None
-    }
-
-    // Whether the block's bytes from `at` on are zero: the rest of a row, then the rows behind it.
-    fn is_zero_from(self, elements: &[u8], at: usize) -> bool
-        requires { bad_state self (length elements.now) ≡ false }
-        ensures { result ≡ all_zero (drop at (block_in self elements.now)) }
-    {
-        let k = self.required_piece_count;
-        let len = self.piece_byte_len;
-        let mut i = at / len;
-        let mut skip = at % len;
-        while i < k {
-            let row = i * (k + len);
-            let from = row + k + skip;
-            let to = row + k + len;
-            if !rows::is_zero(&elements[from..to]) {
-                return false;
-            }
-            skip = 0;
-            i += 1;
-        }
-        true
-    }
-
-    // The block's first bytes, as many as `data` has, copied row by row.
-    fn copy_data(self, elements: &[u8], data: &mut [u8])
-        requires elements_value { bad_state self (length elements.now) ≡ false }
-        requires data_len_bound { length «data».old ≤ self.required_piece_count * self.piece_byte_len }
-        ensures { «data».new ≡ take (length «data».old) (block_in self elements.now) }
-    {
-        let k = self.required_piece_count;
-        let len = self.piece_byte_len;
-        let mut i = 0;
-        let mut at = 0;
-        while at < data.len() {
-            let n = min(len, data.len() - at);
-            let from = i * (k + len) + k;
-            let to = from + n;
-            let end = at + n;
-            data[at..end].copy_from_slice(&elements[from..to]);
-            at = end;
-            i += 1;
-        }
-    }
-}
-
-fn last_marker(part: &[u8]) -> Option<usize>
-    ensures { result ≡ last_marker marker part.now }
-{
-    let n = part.len();
-    for rev_index in 0..n {
-        let i = n - 1 - rev_index;
-        if part[i] == BOUNDARY_MARKER {
-            return Some(i);
-        }
-    }
-    None
 }
