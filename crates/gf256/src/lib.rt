@@ -85,6 +85,7 @@ impl Gf256 {
     }
 
     // a times x, with no table.
+    #[tactic(auto, using(crate::proofs::Products::times_x_low, crate::proofs::Products::times_x_high))]
     pub fn times_x(a: u8) -> u8
         ensures { result ≡ mul polynomial 2 a }
     {
@@ -92,6 +93,7 @@ impl Gf256 {
     }
 
     // Zero has none.
+    #[tactic(auto, using(galois::proofs::Divided::inverse_none, crate::proofs::Products::inverse_one))]
     pub fn inv(self) -> Option<u8>
         ensures { result ≡ inverse_of (inverse polynomial) self.val }
     {
