@@ -41,12 +41,7 @@ fn form_len(g: Geometry) -> usize
 fn of_kind(kind: u8) -> Option<Geometry>
     ensures { result ≡ stored_geometry kind }
 {
-    match kind {
-        0x21 => Some(Geometry::Of3By2),
-        0x22 => Some(Geometry::Of16By240),
-        0x23 => Some(Geometry::Of32By480),
-        _ => None,
-    }
+    Geometry::ALL.into_iter().find(|g| stored_kind(*g) == kind)
 }
 
 // The geometry of a decoder of these sizes, if it is listed.
@@ -54,16 +49,8 @@ fn of_kind(kind: u8) -> Option<Geometry>
 fn of_sizes(piece_count: usize, piece_byte_len: usize) -> Option<Geometry>
     ensures { result ≡ size_geometry piece_count piece_byte_len }
 {
-    if piece_count == 3 && piece_byte_len == 2 {
-        return Some(Geometry::Of3By2);
-    }
-    if piece_count == 16 && piece_byte_len == 240 {
-        return Some(Geometry::Of16By240);
-    }
-    if piece_count == 32 && piece_byte_len == 480 {
-        return Some(Geometry::Of32By480);
-    }
-    None
+    Geometry::ALL.into_iter().find(|g| g.piece_count() == piece_count
+        && g.piece_byte_len() == piece_byte_len)
 }
 
 // The held bytes of a matrix, then zeros.

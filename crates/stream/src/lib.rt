@@ -24,6 +24,8 @@ pub enum Record {
 }
 
 impl Geometry {
+    pub const ALL: [Geometry; 3] = [Geometry::Of3By2, Geometry::Of16By240, Geometry::Of32By480];
+
     pub fn piece_count(self) -> usize
         ensures { result ≡ pieces_of self }
     {
