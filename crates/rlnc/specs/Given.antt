@@ -11,7 +11,7 @@ pub record QuotientGiven (q : Option ℕ) (before : ℕ) (r : Bool) (after : ℕ
   pub stored : after ≡ unwrap_or q before
 
 -- the number of a result
-unfoldable pub number_in : {A : Type 0} → Result A RLNCError → ℕ
+abbrev pub number_in : {A : Type 0} → Result A RLNCError → ℕ
 number_in (Ok x) = 0
 number_in (Err e) = code_of e
 

@@ -25,9 +25,12 @@ read_by read (Ok s) = read s
 read_by read (Err e) = Err e
 
 -- a record crosses as its kind
+abbrev pub kind_in : Record → ℕ
+kind_in (Piece g) = kind_of g
+kind_in End = 0x01
+
 unfoldable pub kind_or : ℕ → Result Record RLNCError → ℕ
-kind_or before (Ok (Piece g)) = kind_of g
-kind_or before (Ok End) = 0x01
+kind_or before (Ok m) = kind_in m
 kind_or before (Err e) = before
 
 pub record RecordGiven (m : Result Record RLNCError) (before r after : ℕ) : Type 0 where
