@@ -1,13 +1,13 @@
 -- The block copied out row by row: a turn's part of the data is the block's at its place, so that the data is the block up to there.
 -- Assumes nothing.
 use mathlib.Core.Path.{◌≡◌, refl, sym, ap, ◌∙◌}
-use mathlib.Core.List.{List, ◌++◌, append_assoc, append-nil}
+use mathlib.Core.List.{List, ◌++◌, append_assoc}
 use Prim.Native.Nat.{ℕ, ◌+◌, ◌-◌, ◌*◌, ◌≤◌, min}
 use native.Mathlib.Nat.{suc-mul}
 use native.Mathlib.Numerals.{add-one}
 use native.Mathlib.Decide.{dec_le}
 use native.Mathlib.Omega.{arith}
-use lib.ListN.{length, take, drop, drop_of_length-le}
+use lib.ListN.{length, take, drop}
 use lib.Seq.{take-add, take_at, drop_at, drop-drop, take-take, length-take-le}
 use Rattle.linear.proofs.Buffer.{put}
 
@@ -41,8 +41,3 @@ module _ (block old : List ℕ) (L i : ℕ) (w : length old ≤ length block) wh
       part (no h) =
           let none : end - at ≡ 0 = omega arith in
           rw none refl
-
-pub ends : (block old now : List ℕ) (n : ℕ) → Copied block old now n → length old ≤ n → now ≡ take (length old) block
-ends block old now n t h =
-    let whole : min n (length old) ≡ length old = omega arith in
-    rw whole at t ∙ ap (λ (l : List ℕ). take (length old) block ++ l) (drop_of_length-le old (omega arith)) ∙ append-nil (take (length old) block)

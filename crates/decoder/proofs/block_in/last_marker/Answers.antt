@@ -5,4 +5,4 @@ use Rattle.decoder.proofs.Marker.{searched}
 use Rattle.decoder.proofs.block_in.last_marker.Goals as goal
 
 pub returns : goal.returns
-returns c = searched marker c.args.part.now c.rposition.result (search rules)
+returns c = searched marker c.args.part.now _ (search rules)
