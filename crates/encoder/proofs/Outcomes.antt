@@ -1,19 +1,18 @@
 -- Each entry's outcome where its order of refusals answers Ok: it makes what the definition says.
 -- Assumes nothing.
-use mathlib.Core.Path.{◌≡◌, refl, sym, ap}
+use mathlib.Core.Path.{◌≡◌, sym, ap}
 use mathlib.Core.List.{List, ◌++◌}
-use Prim.Native.Nat.{ℕ, ◌*◌, ◌/◌}
+use Prim.Native.Nat.{ℕ, ◌*◌}
 use lib.ListN.{length, drop}
-use Rattle.std.specs.Prelude.{Ok, Err}
+use Rattle.std.specs.Prelude.{Ok}
 use Rattle.answers.specs.Number.{Answer}
-use Rattle.answers.specs.declared.RLNCError.{RLNCError}
 use Rattle.galois.specs.FieldLaws.{FieldLaws}
 use Rattle.linear.specs.Buffer.{rows_of}
 use Rattle.linear.specs.Pieces.{combine, encode}
 use Rattle.block.specs.Padding.{piece_length, padded}
 use Rattle.encoder.specs.declared.Encoder.{Encoder}
 use Rattle.encoder.specs.Made.{made}
-use Rattle.encoder.specs.Entries.{padded_refusal, NewPadded, unpadded_refusal, NewUnpadded, code_refusal, Coded, code_whole_refusal, CodedWhole}
+use Rattle.encoder.specs.Entries.{padded_refusal, NewPadded, code_refusal, Coded, code_whole_refusal, CodedWhole}
 
 module _ {M : ℕ} {bytes block : List ℕ} {k : ℕ} where
   pub padded_made : {L : ℕ} {last : List ℕ} → padded_refusal (length bytes) k (length block) ≡ Ok tt → piece_length (length bytes) k ≡ L

@@ -1,6 +1,6 @@
 -- `encoder::Encoder::code_with_coding_vector` meets its contract: the tests are the order's, and `combine` has the rows that it needs.
 -- Assumes nothing.
-use Rattle.std.proofs.Common.{◌≡◌, false, ℕ, ◌*◌, ◌≤◌, length, sym, ap, subst, ◌∙◌, eq-eqb}
+use Rattle.std.proofs.Common.{◌≡◌, false, ℕ, ◌*◌, ◌≤◌, length, sym, subst, ◌∙◌, eq-eqb}
 use Rattle.field.specs.FieldOf.{field_of}
 use Rattle.linear.specs.Buffer.{rows_of}
 use Rattle.linear.specs.Pieces.{combine}
