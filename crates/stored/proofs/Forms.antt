@@ -1,19 +1,19 @@
 -- A kind and sizes tell the geometry, and the geometry them. A form is four bytes and then a matrix: the held rows at its front are the first
 -- bytes of the matrix, and zeros fill the rest.
 -- Assumes nothing.
-use mathlib.Core.Path.{◌≡◌, refl, sym, ap, ◌∙◌, subst}
+use mathlib.Core.Path.{◌≡◌, refl, ap, ◌∙◌, subst}
 use mathlib.Core.Bool.{Bool, true, false, ◌&&◌}
-use mathlib.Core.List.{List, [], ◌∷◌, ◌++◌}
-use Prim.Native.Nat.{ℕ, zero, suc, ◌+◌, ◌-◌, ◌*◌, ◌≤◌}
-use native.Mathlib.Nat.{le_of_suc-le-suc, not-suc-le-zero, sub-zero, suc-sub-suc}
+use mathlib.Core.List.{List, ◌++◌}
+use Prim.Native.Nat.{ℕ, ◌+◌, ◌-◌, ◌*◌, ◌≤◌}
 use native.Mathlib.Omega.{arith}
 use lib.Dec.{eqb}
-use lib.ListN.{length, take, drop, replicate, length-append, length-replicate}
-use lib.Seq.{take-nil, length-take-le}
+use lib.ListN.{length, take, replicate, length-append, length-replicate}
+use lib.Seq.{length-take-le}
 use borrow.Author.Tests.{eqb-true}
 use Rattle.std.specs.Prelude.{Some, None}
 use Rattle.linear.specs.Choice.{pick}
 use Rattle.linear.specs.Buffer.{flat}
+use Rattle.linear.proofs.Buffer.{length_part}
 use Rattle.linear.proofs.Flat.{flat_front}
 use Rattle.linear.proofs.Choice.{and_true}
 use Rattle.stream.specs.declared.Geometry.{Geometry}
@@ -21,7 +21,7 @@ use Rattle.stream.specs.declared.Geometry.TheVariants.{Of3By2, Of16By240, Of32By
 use Rattle.stream.specs.Geometries.{pieces_of, length_of, body_of}
 use Rattle.decoder.specs.declared.Decoder.{Decoder}
 use Rattle.decoder.specs.Records.{k_of, l_of, f_of, rows_in, held_rows}
-use Rattle.stored.specs.Forms.{stored_kind, matrix_size, form_size, stored_geometry, size_geometry, form_of}
+use Rattle.stored.specs.Forms.{stored_kind, matrix_size, form_size, stored_geometry, size_geometry, form_of, form_matrix}
 use Rattle.stored.proofs.Numbers.{inside}
 
 -- ---- kinds and sizes
@@ -88,10 +88,7 @@ module _ (g : Geometry) (d : Decoder) (elements : List ℕ) (k_is : k_of d ≡ p
     unfolding form_of
     length_form = omega (arith, length_matrix)
 
--- ---- a part of a part
-
-pub drop_take : (n m : ℕ) (l : List ℕ) → n ≤ m → drop n (take m l) ≡ take (m - n) (drop n l)
-drop_take zero m l h = ap (λ (k : ℕ). take k l) (sym (sub-zero m))
-drop_take (suc n) zero l h = absurd (not-suc-le-zero h)
-drop_take (suc n) (suc m) [] h = sym (take-nil (suc m - suc n))
-drop_take (suc n) (suc m) (x ∷ l) h = drop_take n m l (le_of_suc-le-suc h) ∙ ap (λ (k : ℕ). take k (drop n l)) (sym (suc-sub-suc m n))
+-- the matrix of a form that is long enough
+pub matrix_long : (g : Geometry) (form : List ℕ) → form_size g ≤ length form → length (form_matrix g form) ≡ matrix_size g
+unfolding form_matrix
+matrix_long g form w = length_part 4 (matrix_size g) form w

@@ -17,7 +17,7 @@ use Rattle.linear.specs.All.{Bytes}
 use Rattle.linear.specs.Rows.{all_zero}
 use Rattle.linear.specs.Buffer.{rows_of, flat, holding}
 use Rattle.linear.proofs.All.{bytes_at}
-use Rattle.linear.proofs.Buffer.{length_rows_of, length_part, sizes_of as widths_of}
+use Rattle.linear.proofs.Buffer.{length_rows_of, sizes_of as widths_of}
 use Rattle.linear.proofs.Flat.{rows_flat}
 use Rattle.block.specs.Sizes.{over_limit, sized}
 use Rattle.linear.proofs.Choice.{or_false}
@@ -31,7 +31,7 @@ use Rattle.stored.specs.Forms.{stored_kind, matrix_size, form_size, stored_geome
 use Rattle.stored.specs.Entries.{Saving, bad_form, Loading}
 use Rattle.decoder.proofs.Sound.{Holds, holds}
 use Rattle.stored.proofs.Numbers.{inside}
-use Rattle.stored.proofs.Forms.{kind_is, kind_of_lem, sizes_are, sizes_of, whole_matrix, held_bytes, held_room, length_matrix, length_form}
+use Rattle.stored.proofs.Forms.{kind_is, kind_of_lem, sizes_are, sizes_of, whole_matrix, held_bytes, held_room, length_matrix, length_form, matrix_long}
 use Rattle.stored.proofs.Entries.{saves, loads}
 use Rattle.stored.proofs.OneResult.{saved_once, loaded_once}
 use Rattle.stored.proofs.Outcomes.{WasSaved, was_saved, WasLoaded, was_loaded}
@@ -190,8 +190,7 @@ module _ (g : Geometry) (form elements : List ℕ) (bytes : Bytes form) (w : for
   matrix = form_matrix g form ++ drop (matrix_size g) elements
 
   long : length (form_matrix g form) ≡ matrix_size g
-  unfolding form_matrix
-  long = length_part 4 (matrix_size g) form w
+  long = matrix_long g form w
 
   most : form_taken form ≤ 65535
   unfolding form_taken

@@ -2,11 +2,11 @@
 // loads saves back to the same bytes.
 #![tactic(auto)]
 
-ghost use Rattle.std.specs.Prelude.{◌≡◌, false, ◌++◌, ◌-◌, ◌≤◌, length, take, drop, replicate};
+ghost use Rattle.std.specs.Prelude.{◌≡◌, false, ◌++◌, ◌-◌, ◌*◌, ◌≤◌, ◌<◌, length, replicate, MatchOption};
 ghost use Rattle.stream.specs.Geometries.{pieces_of, length_of};
-ghost use Rattle.decoder.specs.Records.{k_of, l_of, bad_state};
-ghost use Rattle.stored.specs.Forms.{stored_kind, matrix_size, form_size, stored_geometry, size_geometry, form_of, form_taken, form_decoder};
-ghost use Rattle.stored.specs.Entries.{bad_form, Saving, Loading};
+ghost use Rattle.decoder.specs.Records.{k_of, l_of, f_of, bad_state};
+ghost use Rattle.stored.specs.Forms.{stored_kind, matrix_size, form_size, stored_geometry, size_geometry, form_of, form_matrix, form_decoder};
+ghost use Rattle.stored.specs.Entries.{bad_parts, Saving, Loading};
 
 use answers::RLNCError;
 use decoder::{Decoder, ReceivedPieceCount, UsefulPieceCount};
@@ -95,46 +95,35 @@ pub fn save(d: Decoder, elements: &[u8], out: &mut [u8]) -> Result<usize, RLNCEr
     Ok(n)
 }
 
-// The taken count: high byte first.
-#[tactic(auto, unfolding(crate::specs::Forms::form_taken))]
-fn taken_in(form: &[u8]) -> usize
-    requires { 4 ≤ length form.now }
-    ensures { result ≡ form_taken form.now }
+// The record and the matrix in a form of this geometry; none where it is cut short.
+#[tactic(auto, unfolding(crate::specs::Forms::form_rows, crate::specs::Forms::form_taken, crate::specs::Forms::form_matrix, crate::specs::Forms::form_decoder))]
+fn parts(g: Geometry, form: &[u8]) -> Option<(Decoder, &[u8])>
+    ensures { MatchOption result (length form.now < form_size g) (λ p. (form_size g ≤ length form.now) × (p.0 ≡ form_decoder g form.now) × (p.1.now ≡ form_matrix g form.now)) }
 {
-    u16::from_be_bytes([form[2], form[3]]) as usize
+    let [_, rows, high, low, rest @ ..] = form else {
+        return None;
+    };
+    let matrix = rest.get(..matrix_len(g))?;
+    let taken = u16::from_be_bytes([*high, *low]);
+    let d = Decoder {
+        required_piece_count: g.piece_count(),
+        piece_byte_len: g.piece_byte_len(),
+        useful_piece_count: UsefulPieceCount(*rows as usize),
+        received_piece_count: ReceivedPieceCount(taken as usize),
+    };
+    Some((d, matrix))
 }
 
 // Bad counts, or a nonzero byte behind the held rows.
-fn is_bad_form(g: Geometry, form: &[u8]) -> bool
-    requires { form_size g ≤ length form.now }
-    ensures { result ≡ bad_form g form.now }
+#[tactic(auto, unfolding(crate::specs::Entries::bad_parts))]
+fn is_bad(d: Decoder, matrix: &[u8]) -> bool
+    requires { length matrix.now ≡ k_of d * f_of d }
+    ensures { result ≡ bad_parts d matrix.now }
 {
-    let rows = form[1] as usize;
-    if g.piece_count() < rows {
-        return true;
-    }
-    if taken_in(form) < rows {
-        return true;
-    }
-    let a = 4 + rows * g.body_len();
-    let e = form_len(g);
-    !rows::is_zero(&form[a..e])
-}
-
-// The record in a form.
-#[tactic(auto, unfolding(crate::specs::Forms::form_rows, crate::specs::Forms::form_decoder))]
-fn decoder_in(g: Geometry, form: &[u8]) -> Decoder
-    requires { 4 ≤ length form.now }
-    ensures { result ≡ form_decoder g form.now }
-{
-    let rows = UsefulPieceCount(form[1] as usize);
-    let taken = ReceivedPieceCount(taken_in(form));
-    Decoder {
-        required_piece_count: g.piece_count(),
-        piece_byte_len: g.piece_byte_len(),
-        useful_piece_count: rows,
-        received_piece_count: taken,
-    }
+    let rows = d.useful_piece_count.0;
+    d.required_piece_count < rows
+        || d.received_piece_count.0 < rows
+        || !rows::is_zero(&matrix[rows * (d.required_piece_count + d.piece_byte_len)..])
 }
 
 // The decoder of a form, its matrix at the front of `elements`.
@@ -147,17 +136,16 @@ pub fn load(form: &[u8], elements: &mut [u8]) -> Result<Decoder, RLNCError>
     let Some(g) = of_kind(*kind) else {
         return Err(RLNCError::UnknownKind);
     };
-    let e = form_len(g);
-    if form.len() < e {
+    let Some((d, matrix)) = parts(g, form) else {
         return Err(RLNCError::CutRecord);
-    }
-    let n = matrix_len(g);
+    };
+    let n = matrix.len();
     if elements.len() < n {
         return Err(RLNCError::NoRoom);
     }
-    if is_bad_form(g, form) {
+    if is_bad(d, matrix) {
         return Err(RLNCError::BadState);
     }
-    elements[..n].copy_from_slice(&form[4..e]);
-    Ok(decoder_in(g, form))
+    elements[..n].copy_from_slice(matrix);
+    Ok(d)
 }
