@@ -3,17 +3,15 @@
 #![tactic(auto)]
 
 ghost use Rattle.std.specs.Prelude.{◌≡◌, ◌≤◌, length};
-ghost use Rattle.answers.specs.Number.{code_of};
 ghost use Rattle.field.specs.FieldOf.{field_of};
-ghost use Rattle.reader.specs.declared.Then.TheVariants as Then·;
 ghost use Rattle.reader.specs.Reading.{wanted, body_in};
-ghost use Rattle.listing.specs.Lines.{stop_line};
 ghost use Rattle.listing.specs.Listing.{block_room};
 ghost use Rattle.joiner.specs.Machine.{end_room, text_room, fresh, state, Feeding};
-ghost use Rattle.joiner.specs.Parts.{Front, Begun, Closed};
+ghost use Rattle.joiner.specs.Parts.{Begun, Closed};
 
 use answers::RLNCError;
 use field::Field;
+use listing::LINE_LEN;
 use listing::join::{End, Joining, Step};
 use reader::{Came, Progress, Reader, Then};
 
@@ -23,7 +21,7 @@ pub const MATRIX_LEN: usize = 16384;
 pub const BLOCK_LEN: usize = 15360;
 
 // The longest text of one turn: a piece's line, the end line, and the line of the data.
-pub const TEXT_LEN: usize = 30889;
+pub const TEXT_LEN: usize = 2 * LINE_LEN + 2 * BLOCK_LEN + 1;
 
 // How it ended: so many bytes of data stand at the front of the lent block; there are none; or the stream stopped.
 #[derive(Clone, Copy)]
@@ -70,8 +68,7 @@ impl Joiner {
     pub fn wants(self) -> usize
         ensures { result ≡ wanted self.reader.place }
     {
-        let reader = self.reader;
-        reader.wants()
+        self.reader.wants()
     }
 
     // Takes the bytes that it wants, or fewer where the input has ended. Refuses before it changes anything: 21 where `out` is below the longest
@@ -87,16 +84,18 @@ impl Joiner {
     ) -> Result<Fed, RLNCError>
         ensures { Feeding (field_of f) self input.now elements.old «data».old out.old result elements.new «data».new out.new }
     {
-        if out.len() < TEXT_LEN {
-            return Err(RLNCError::NoRoom);
-        }
-        if data.len() < BLOCK_LEN {
+        if out.len() < TEXT_LEN || data.len() < BLOCK_LEN {
             return Err(RLNCError::NoRoom);
         }
         let Progress { reader, came, then } = self.reader.read(input)?;
-        let Step { joining, size: first } = begin(self.joining, f, came, input, elements, out)?;
-        let Closing { ending, size: later } =
-            close(joining, then, reader.at, elements, data, &mut out[first..]);
+        let Step {
+            joining,
+            size: first,
+        } = begin(self.joining, f, came, input, elements, out)?;
+        let Closing {
+            ending,
+            size: later,
+        } = close(joining, then, reader.at, elements, data, &mut out[first..]);
         let joiner = Joiner {
             reader,
             joining,
@@ -128,15 +127,13 @@ fn begin(
             let size = listing::header_line(out)?;
             Ok(Step { joining, size })
         }
-        Came::Piece(g) => {
-            let n = g.body_len();
-            joining.piece(f, g, &input[..n], elements, out)
-        }
+        Came::Piece(g) => joining.piece(f, g, &input[..g.body_len()], elements, out),
         Came::Cut => Ok(Step { joining, size: 0 }),
     }
 }
 
-// What follows: nothing before a body has come, the lines of the end, or the line of a stop.
+// What follows: nothing before a body has come; the lines of the end, and the data at the front of the block; or the line of a stop. There is
+// room for each.
 fn close(
     joining: Joining,
     then: Then,
@@ -154,29 +151,22 @@ fn close(
             ending: Ending::NotYet,
             size: 0,
         },
-        Then::End => finish(joining, elements, data, out),
+        Then::End => match joining
+            .finish(elements, &mut data[..BLOCK_LEN], out)
+            .unwrap()
+        {
+            End::Data(n, size) => Closing {
+                ending: Ending::Rebuilt(n),
+                size,
+            },
+            End::Alone(size) => Closing {
+                ending: Ending::Open,
+                size,
+            },
+        },
         Then::Stop(e) => Closing {
             ending: Ending::Stopped,
             size: listing::stop_line(out, e, at).unwrap(),
-        },
-    }
-}
-
-// The end record: the last lines, and the data at the front of the block.
-fn finish(joining: Joining, elements: &[u8], data: &mut [u8], out: &mut [u8]) -> Closing
-    requires end_room_in_bounds { end_room ≤ length out.old }
-    requires block_room_in_bounds { block_room ≤ length «data».old }
-    ensures { Closed (state joining elements.now) Then·.End 0 «data».old out.old result «data».new out.new }
-{
-    let room = BLOCK_LEN;
-    match joining.finish(elements, &mut data[..room], out).unwrap() {
-        End::Data(n, size) => Closing {
-            ending: Ending::Rebuilt(n),
-            size,
-        },
-        End::Alone(size) => Closing {
-            ending: Ending::Open,
-            size,
         },
     }
 }
