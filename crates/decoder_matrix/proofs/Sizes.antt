@@ -13,7 +13,7 @@ use Rattle.linear.specs.Rows.{entry}
 use Rattle.linear.proofs.Buffer.{row_end, entry_at}
 use borrow.Author.Tests.{leb-true, leb-false, le-leb, lt-leb}
 use Rattle.decoder_matrix.specs.declared.DecoderMatrix.{DecoderMatrix}
-use Rattle.decoder_matrix.specs.Matrix.{k_of, sizes_fit, rows_in}
+use Rattle.decoder_matrix.specs.Matrix.{k_of, sizes_fit, rows_in, with_rows}
 
 -- the test by a division, where k · c may be no usize
 pub by_division : (k c n : ℕ) → 0 < c → leb k (n / c) ≡ leb (k * c) n
@@ -53,6 +53,11 @@ module _ (m : DecoderMatrix) (n : ℕ) where
   pub byte_in : sizes_fit m n ≡ true → (j i : ℕ) → j < m.rows → i < m.rows → j * m.cols + i < n
   byte_in e j i h k = omega (arith, row_in e j h, column_in e i k)
 
+  -- and so do fewer rows
+  pub fewer : sizes_fit m n ≡ true → (r : ℕ) → r ≤ m.rows → sizes_fit (with_rows m r) n ≡ true
+  unfolding sizes_fit
+  fewer e r h = let s = sized e in rw (le-leb r (k_of m) (omega arith), le-leb (k_of m) m.cols s.wide, le-leb (k_of m * m.cols) n s.room)
+
   -- the coefficients of a row held, and the room for k rows
   pub coefficients_in : sizes_fit m n ≡ true → (j : ℕ) → j < m.rows → j * m.cols + k_of m ≤ n
   coefficients_in e j h = omega (arith, row_in e j h, sized e)
@@ -63,14 +68,6 @@ module _ (m : DecoderMatrix) (n : ℕ) where
   pub fitting : m.rows ≤ k_of m → k_of m ≤ m.cols → sizes_fit m n ≡ leb (k_of m * m.cols) n
   unfolding sizes_fit
   fitting f w = rw (le-leb m.rows (k_of m) f, le-leb (k_of m) m.cols w)
-
-  pub too_many : k_of m < m.rows → sizes_fit m n ≡ false
-  unfolding sizes_fit
-  too_many h = rw (lt-leb m.rows (k_of m) h)
-
-  pub too_narrow : m.rows ≤ k_of m → m.cols < k_of m → sizes_fit m n ≡ false
-  unfolding sizes_fit
-  too_narrow f h = rw (le-leb m.rows (k_of m) f, lt-leb (k_of m) m.cols h)
 
 -- byte i of row i is the entry (i, i)
 pub pivot_byte : (m : DecoderMatrix) (elements : List ℕ) → sizes_fit m (length elements) ≡ true → (i : ℕ) → i < m.rows
