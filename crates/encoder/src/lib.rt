@@ -15,6 +15,7 @@ use answers::{Answer, RLNCError};
 use block::BOUNDARY_MARKER;
 use field::Field;
 
+// Callers, C among them, may put any numbers in: each method looks at them first.
 #[derive(Clone, Copy)]
 pub struct Encoder {
     pub piece_count: usize,
@@ -154,7 +155,7 @@ impl Encoder {
         rows::combine(f, block, coding_vector, coded_data)
     }
 
-    // The whole piece: the vector, then the payload that it codes.
+    // The whole piece: the vector, then the payload that it codes. The lengths are refused in another order than above.
     #[tactic(auto, unfolding(crate::specs::Entries::code_whole_refusal))]
     pub fn code_with_buf(
         self,

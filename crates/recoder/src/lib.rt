@@ -12,6 +12,7 @@ ghost use Rattle.recoder.specs.Entries.{NewRecoder, sound, bad_state, Recoded};
 use answers::{Answer, RLNCError};
 use field::Field;
 
+// Callers, C among them, may put any numbers in: each method looks at them first.
 #[derive(Clone, Copy)]
 pub struct Recoder {
     pub num_pieces_received: usize,
@@ -46,13 +47,8 @@ impl Recoder {
         if num_pieces_received == 0 {
             return Err(RLNCError::NotEnoughPiecesToRecode);
         }
-        if 256 < num_pieces_received {
-            return Err(RLNCError::SizeOverLimit);
-        }
-        if block::over_limit(
-            num_pieces_coded_together,
-            full_coded_piece_byte_len - num_pieces_coded_together,
-        ) {
+        let payload = full_coded_piece_byte_len - num_pieces_coded_together;
+        if 256 < num_pieces_received || block::over_limit(num_pieces_coded_together, payload) {
             return Err(RLNCError::SizeOverLimit);
         }
         Ok(Recoder {
