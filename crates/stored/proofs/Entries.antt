@@ -1,7 +1,7 @@
 -- What `Saving` and `Loading` say case by case: each test that held or failed picks one result. And the other way: what a decoder that was saved
 -- or loaded tells of the tests.
 -- Assumes nothing.
-use mathlib.Core.Path.{◌≡◌, refl, ◌∙◌}
+use mathlib.Core.Path.{◌≡◌, refl, ap, ◌∙◌}
 use mathlib.Core.Bool.{true, false}
 use mathlib.Core.List.{List, [], ◌∷◌, ◌++◌}
 use Prim.Native.Nat.{ℕ, ◌≤◌, ◌<◌}
@@ -9,7 +9,7 @@ use native.Mathlib.Omega.{arith}
 use lib.Dec.{ltb}
 use lib.ListN.{length, get_or, drop}
 use borrow.Author.Tests.{lt-ltb, le-ltb}
-use Rattle.std.specs.Prelude.{Some, None, Ok, Err}
+use Rattle.std.specs.Prelude.{Option, Some, None, Result, Ok, Err, ok_or}
 use Rattle.answers.specs.declared.RLNCError.TheVariants.{NoRoom, BadState, UnknownKind, CutRecord}
 use Rattle.stream.specs.declared.Geometry.{Geometry}
 use Rattle.decoder.specs.declared.Decoder.{Decoder}
@@ -18,6 +18,13 @@ use Rattle.decoder.proofs.Sound.{holds}
 use Rattle.stored.specs.Forms.{matrix_size, form_size, stored_geometry, size_geometry, form_of, form_matrix, form_decoder}
 use Rattle.stored.specs.Entries.{size_refusal, save_refusal, saved_form, Saving, bad_form, form_refusal, load_refusal, geometry_in, load_result, load_matrix, Loading}
 use Rattle.stored.proofs.Forms.{sizes_are, length_form}
+
+-- what `?` hands on of an absent value, as `ok_or` made it an error
+pub handed_on : {T U E : Type 0} {o : Option U} {x e : E} {r : Result T E} → Err x ≡ ok_or o e → o ≡ None → (y : E) × (r ≡ Err y) × (y ≡ x) → r ≡ Err e
+handed_on {T} {U} {E} {o} {x} {e} v n p = p.1 ∙ ap Err p.2 ∙ ap Err same
+  where
+    same : x ≡ e
+    same = let h : ◌≡◌ {A = Result U E} (Err x) (Err e) = v ∙ ap (λ (o : Option U). ok_or o e) n in cc
 
 -- ---- saving
 

@@ -84,9 +84,7 @@ pub fn save(d: Decoder, elements: &[u8], out: &mut [u8]) -> Result<usize, RLNCEr
     if !d.holds(elements.len()) {
         return Err(RLNCError::BadState);
     }
-    let Some(g) = of_sizes(d.required_piece_count, d.piece_byte_len) else {
-        return Err(RLNCError::UnknownKind);
-    };
+    let g = of_sizes(d.required_piece_count, d.piece_byte_len).ok_or(RLNCError::UnknownKind)?;
     let n = form_len(g);
     if out.len() < n {
         return Err(RLNCError::NoRoom);
@@ -133,12 +131,8 @@ pub fn load(form: &[u8], elements: &mut [u8]) -> Result<Decoder, RLNCError>
     let [kind, ..] = form else {
         return Err(RLNCError::CutRecord);
     };
-    let Some(g) = of_kind(*kind) else {
-        return Err(RLNCError::UnknownKind);
-    };
-    let Some((d, matrix)) = parts(g, form) else {
-        return Err(RLNCError::CutRecord);
-    };
+    let g = of_kind(*kind).ok_or(RLNCError::UnknownKind)?;
+    let (d, matrix) = parts(g, form).ok_or(RLNCError::CutRecord)?;
     let n = matrix.len();
     if elements.len() < n {
         return Err(RLNCError::NoRoom);
