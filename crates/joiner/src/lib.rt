@@ -88,23 +88,19 @@ impl Joiner {
             return Err(RLNCError::NoRoom);
         }
         let Progress { reader, came, then } = self.reader.read(input)?;
-        let Step {
-            joining,
-            size: first,
-        } = begin(self.joining, f, came, input, elements, out)?;
-        let Closing {
-            ending,
-            size: later,
-        } = close(joining, then, reader.at, elements, data, &mut out[first..]);
+        let step = begin(self.joining, f, came, input, elements, out)?;
+        let joining = step.joining;
+        let first = step.size;
+        let closing = close(joining, then, reader.at, elements, data, &mut out[first..]);
         let joiner = Joiner {
             reader,
             joining,
-            ending,
+            ending: closing.ending,
         };
         Ok(Fed {
             joiner,
             first,
-            later,
+            later: closing.size,
         })
     }
 }
