@@ -23,7 +23,7 @@ use Rattle.decoder.specs.declared.Taken.{Taken}
 use Rattle.decoder.specs.declared.Taken.TheVariants.{Useful, NotUseful}
 use Rattle.decoder.specs.Records.{rows_in, taken_by}
 use Rattle.decoder.specs.Answers.{taken_number, kept}
-use Rattle.decoder.specs.Entries.{take_refusal, rows_after, after, taking, Decoded, recover_refusal, Recovery}
+use Rattle.decoder.specs.Entries.{take_refusal, rows_after, after, taking, Decoded, Recovery}
 use Rattle.decoder.specs.Calls.{number_next, record_next, buffer_next}
 use Rattle.rlnc.specs.Given.{Given}
 use Rattle.rlnc.specs.Records.{EncoderMade, UnpaddedMade, RecoderMade, PieceTaken, DataRecovered}

@@ -1,22 +1,17 @@
 -- Records of the stream, handed out as their kinds.
 -- Assumes nothing.
-use mathlib.Core.Path.{◌≡◌, refl, sym, ap, ◌∙◌, subst}
-use mathlib.Core.Bool.{Bool, true≢false}
-use mathlib.Core.List.{List}
+use mathlib.Core.Path.{◌≡◌, refl, ap, ◌∙◌, subst}
 use Prim.Native.Nat.{ℕ}
-use borrow.Author.Tests.{eq-eqb, ne_eqb}
 use Rattle.std.specs.Prelude.{Option, None, Some, Result, Ok, Err, IsOkAnd, MatchResult, ok_or}
 use Rattle.std.specs.Result.{result_unwrap_or, result_ok}
-use Rattle.answers.specs.Number.{Answer, number_of, code_of}
 use Rattle.answers.specs.declared.RLNCError.{RLNCError}
-use Rattle.answers.specs.declared.RLNCError.TheVariants.{BadState, UnknownKind}
-use Rattle.linear.specs.Choice.{pick}
+use Rattle.answers.specs.declared.RLNCError.TheVariants.{UnknownKind}
 use Rattle.stream.specs.declared.Geometry.{Geometry}
 use Rattle.stream.specs.declared.Record.{Record}
-use Rattle.stream.specs.Geometries.{pieces_of, length_of, geometry_of}
-use Rattle.stream.specs.Records.{record_number, Written}
+use Rattle.stream.specs.Geometries.{geometry_of}
+use Rattle.stream.specs.Records.{record_number}
 use Rattle.rlnc.specs.Given.{number_in, Given}
-use Rattle.rlnc.specs.Streams.{seen_before, earlier_of, read_by, kind_in, kind_or, RecordGiven, kind_refusal, record_of, PieceWritten, sizes_number, size_or, SizesGiven}
+use Rattle.rlnc.specs.Streams.{read_by, kind_in, kind_or, RecordGiven}
 
 -- reading a kind that is listed, and one that is not
 pub listed : (kind : ℕ) → geometry_of kind ≡ result_ok (ok_or (geometry_of kind) UnknownKind)
