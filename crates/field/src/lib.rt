@@ -39,7 +39,7 @@ impl Field {
         }
     }
 
-    fn times_x(self, a: u8) -> u8
+    pub fn times_x(self, a: u8) -> u8
         ensures { result ≡ (field_of self).mul 2 a }
     {
         match self {
