@@ -30,10 +30,7 @@ pub fn combine(f: Field, rows: &[u8], numbers: &[u8], out: &mut [u8]) -> Answer
 fn holds_rows(n: usize, count: usize, width: usize) -> bool
     ensures { result ≡ leb (count * width) n }
 {
-    if width == 0 {
-        return true;
-    }
-    count <= n / width
+    width == 0 || count <= n / width
 }
 
 fn sum_bits(f: Field, rows: &[u8], numbers: &[u8], out: &mut [u8])

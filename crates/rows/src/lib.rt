@@ -51,7 +51,11 @@ pub fn mul_vec_by_scalar_then_add_into_vec(
     if add_into_vec.len() != mul_vec.len() {
         return Err(RLNCError::InvalidPieceLength);
     }
-    add_scaled(f, add_into_vec, mul_vec, scalar);
+    match scalar {
+        0 => {}
+        1 => add_row(add_into_vec, mul_vec),
+        _ => add_multiple(f, add_into_vec, mul_vec, scalar),
+    }
     Ok(())
 }
 
@@ -68,16 +72,8 @@ impl Parts {
     fn lie_apart(self, n: usize) -> bool
         ensures { result ≡ lie_apart self n }
     {
-        let from = self.from;
-        let to = self.to;
-        let len = self.len;
-        if n < len || n - len < from || n - len < to {
-            return false;
-        }
-        if from <= to {
-            return len <= to - from;
-        }
-        len <= from - to
+        let Parts { from, to, len } = self;
+        len <= n && from <= n - len && to <= n - len && len <= from.abs_diff(to)
     }
 }
 
@@ -97,12 +93,13 @@ pub fn mul_part_by_scalar_then_add_into_part(
     let Parts { from, to, len } = parts;
     if from < to {
         let (front, back) = buffer.split_at_mut(to);
-        add_scaled(f, &mut back[..len], &front[from..from + len], scalar);
+        let target = &mut back[..len];
+        mul_vec_by_scalar_then_add_into_vec(f, target, &front[from..from + len], scalar)
     } else {
         let (front, back) = buffer.split_at_mut(from);
-        add_scaled(f, &mut front[to..to + len], &back[..len], scalar);
+        let target = &mut front[to..to + len];
+        mul_vec_by_scalar_then_add_into_vec(f, target, &back[..len], scalar)
     }
-    Ok(())
 }
 
 // Zeros, all of it.
@@ -125,17 +122,6 @@ fn scale(f: Field, vec: &mut [u8], q: u8)
     let m = f.multiples(q);
     for b in vec.iter_mut() {
         *b = sum_chosen(m, *b);
-    }
-}
-
-fn add_scaled(f: Field, dst: &mut [u8], src: &[u8], scalar: u8)
-    requires { length dst.old ≡ length src.now }
-    ensures { dst.new ≡ add_multiple (field_of f) scalar src.now dst.old }
-{
-    match scalar {
-        0 => {}
-        1 => add_row(dst, src),
-        _ => add_multiple(f, dst, src, scalar),
     }
 }
 
@@ -163,14 +149,13 @@ fn add_multiple(f: Field, dst: &mut [u8], src: &[u8], q: u8)
 fn sum_chosen(m: [u8; 8], b: u8) -> u8
     ensures { (𝓕 : FieldLaws) (q : ℕ) → m ≡ multiples_of 𝓕 q → result ≡ 𝓕.mul q b }
 {
-    chosen_by(b, m[0])
-        ^ chosen_by(b / 2, m[1])
-        ^ chosen_by(b / 4, m[2])
-        ^ chosen_by(b / 8, m[3])
-        ^ chosen_by(b / 16, m[4])
-        ^ chosen_by(b / 32, m[5])
-        ^ chosen_by(b / 64, m[6])
-        ^ chosen_by(b / 128, m[7])
+    let mut sum = 0;
+    let mut bits = b;
+    for x in m {
+        sum ^= chosen_by(bits, x);
+        bits /= 2;
+    }
+    sum
 }
 
 // m where the lowest bit of b is set.

@@ -1,5 +1,5 @@
 -- `rows::scale`: the first i bytes are those of the row scaled, the others as they were.
-use Rattle.std.proofs.Common.{◌≡◌, length, ◌-◌}
+use Rattle.std.proofs.Common.{◌≡◌}
 use Rattle.galois.specs.FieldLaws.{FieldLaws}
 use Rattle.galois.specs.Multiples.{multiples_of}
 use Rattle.linear.specs.Rows.{scale_row}
@@ -8,4 +8,3 @@ use Rattle.rows.proofs.scale.Given as goal
 
 abbrev pub invariant-loop-b : goal.invariant-loop-b
 invariant-loop-b l = (𝓕 : FieldLaws) → l.m ≡ multiples_of 𝓕 l.q → Turned l.b-index (scale_row 𝓕 l.q l.initial.vec) l.initial.vec l.vec
-

@@ -1,5 +1,5 @@
 -- `rows::combining::add_chosen`: a turn adds those of some numbers, and at the end none are left.
-use Rattle.std.proofs.Common.{◌≡◌, ◌≤◌, List, ℕ, ◌+◌, ◌*◌, length, get_or, drop, refl, sym, ap, ◌∙◌, arith, length-drop}
+use Rattle.std.proofs.Common.{◌≤◌, List, ℕ, ◌+◌, ◌*◌, length, get_or, refl, sym, ap, ◌∙◌, arith, length-drop}
 use Rattle.std.specs.Slice.Iter.{chunks_rest}
 use Rattle.galois.specs.Gf.{◌⊕◌}
 use Rattle.rows.specs.Chosen.{sum_chosen}

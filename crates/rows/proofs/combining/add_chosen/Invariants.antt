@@ -11,5 +11,5 @@ invariant-loop-some l = record {
   fits : length (chunks_rest l.some-iterator) * length l.initial.out ≤ length l.left;
   added : (i : ℕ) → i < length l.initial.out
       → get_or l.out i 0 ⊕ sum_chosen l.bit (length l.initial.out) (chunks_rest l.some-iterator) l.left i
-          ≡ get_or l.initial.out i 0 ⊕ sum_chosen l.bit (length l.initial.out) l.numbers l.rows i;
+      ≡ get_or l.initial.out i 0 ⊕ sum_chosen l.bit (length l.initial.out) l.numbers l.rows i;
 }

@@ -1,5 +1,5 @@
 -- `rows::combining::add_rows`: a turn adds the rows at four starts, or at one.
-use Rattle.std.proofs.Common.{◌≡◌, ◌<◌, ◌≤◌, List, ℕ, [], ◌∷◌, ◌++◌, ◌+◌, ◌-◌, ◌*◌, ◌/◌, length, get_or, take, drop, refl, sym, ap, ◌∙◌, subst, arith, take-append-drop}
+use Rattle.std.proofs.Common.{◌≡◌, ◌≤◌, List, ℕ, [], ◌∷◌, ◌++◌, ◌+◌, ◌-◌, ◌*◌, ◌/◌, length, get_or, take, drop, sym, ap, ◌∙◌, subst, arith, take-append-drop}
 use Rattle.std.proofs.Math.Seq.{take-add, get_or-take, get_or-drop, take_all}
 use Rattle.std.proofs.lemmas.List.{take_more}
 use Rattle.galois.specs.Gf.{◌⊕◌}
@@ -16,8 +16,8 @@ add_four-requires c =
     let m = c.loop-four.four-index in
     let four = ap (λ (l : List (List ℕ)). get_or l m []) c.as_chunks.ensures.front ∙ chunk_at 4 (length xs / 4) m xs (omega arith) in
     λ k h.
-        let at = ap (λ (l : List ℕ). get_or l k 0) four ∙ get_or-take 4 (drop (m * 4) xs) k 0 h ∙ get_or-drop (m * 4) xs k 0 in
-        subst (λ (s : ℕ). s + length c.loop-four.out ≤ length c.args.rows.now) (sym at) (omega (arith, c.requires (m * 4 + k) (omega arith)))
+    let at = ap (λ (l : List ℕ). get_or l k 0) four ∙ get_or-take 4 (drop (m * 4) xs) k 0 h ∙ get_or-drop (m * 4) xs k 0 in
+    subst (λ (s : ℕ). s + length c.loop-four.out ≤ length c.args.rows.now) (sym at) (omega (arith, c.requires (m * 4 + k) (omega arith)))
 
 pub loop-four-preserved : goal.loop-four-preserved
 loop-four-preserved c =
@@ -43,9 +43,9 @@ loop-start-preserved c =
     let fits : s + length a.out.now ≤ length a.rows.now = omega (arith, at, c.requires (m + l.start-index) (omega arith)) in
     let size : s + length a.out.now - s ≡ length l.out = omega arith in
     λ i h. more_added a.rows.now i _ (take l.start-index rest) (s ∷ []) (take_more rest l.start-index 0 (omega arith)) (l.invariant i h)
-        (ap (λ (o : List ℕ). get_or o i 0) c.add_row.ensures
-        ∙ part_added a.rows.now l.out s (s + length a.out.now - s) i size (omega arith) (omega arith)
-        ∙ ap (λ (x : ℕ). get_or l.out i 0 ⊕ x) (sym (sum_one a.rows.now i s)))
+    (ap (λ (o : List ℕ). get_or o i 0) c.add_row.ensures
+    ∙ part_added a.rows.now l.out s (s + length a.out.now - s) i size (omega arith) (omega arith)
+    ∙ ap (λ (x : ℕ). get_or l.out i 0 ⊕ x) (sym (sum_one a.rows.now i s)))
 
 pub returns : goal.returns
 returns c =
@@ -57,6 +57,6 @@ returns c =
     let all : length rest ≤ c.loop-start.start-index = omega arith in
     let both : xs ≡ take m xs ++ rest = sym (ap (λ (l : List ℕ). take m xs ++ l) c.as_chunks.ensures.back ∙ take-append-drop m xs) in
     λ i h. more_added rows i _ (take m xs) rest both
-        (c.loop-four.invariant i h ∙ ap (λ (k : ℕ). get_or c.args.out.now i 0 ⊕ sum_at rows (take k xs) i) fours)
-        (c.loop-start.invariant i (omega arith)
-        ∙ ap (λ (l : List ℕ). get_or c.loop-four.out i 0 ⊕ sum_at rows l i) (take_all c.loop-start.start-index rest all))
+    (c.loop-four.invariant i h ∙ ap (λ (k : ℕ). get_or c.args.out.now i 0 ⊕ sum_at rows (take k xs) i) fours)
+    (c.loop-start.invariant i (omega arith)
+    ∙ ap (λ (l : List ℕ). get_or c.loop-four.out i 0 ⊕ sum_at rows l i) (take_all c.loop-start.start-index rest all))

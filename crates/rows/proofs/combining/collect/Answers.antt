@@ -1,5 +1,5 @@
 -- `rows::combining::collect`: a turn stores the start of row j, and counts it where its number has the bit.
-use Rattle.std.proofs.Common.{◌≡◌, ℕ, ◌+◌, ◌*◌, ◌/◌, ◌%◌, ◌^◌, ◌<◌, length, get_or, set, take, List, [], ◌∷◌, ◌++◌, subst, arith, length-take-le}
+use Rattle.std.proofs.Common.{◌≡◌, ℕ, ◌+◌, ◌*◌, ◌/◌, ◌%◌, ◌^◌, length, get_or, set, take, [], ◌∷◌, ◌++◌, subst, arith, length-take-le}
 use Rattle.std.proofs.lemmas.List.{take_more}
 use Rattle.rows.specs.Chosen.{Collected}
 use Rattle.rows.proofs.ChosenLaws.{collects_none, collects_more}
