@@ -39,6 +39,7 @@ impl Field {
         }
     }
 
+    // a times x.
     pub fn times_x(self, a: u8) -> u8
         ensures { result ≡ (field_of self).mul 2 a }
     {

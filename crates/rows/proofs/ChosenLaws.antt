@@ -19,13 +19,13 @@ use Rattle.rows.proofs.RowLaws.{get_or_sum}
 
 -- ---- sums over lists put together
 
-pub sum_append : (rows : List ℕ) (i : ℕ) (a b : List ℕ) → sum_at rows (a ++ b) i ≡ sum_at rows a i ⊕ sum_at rows b i
+sum_append : (rows : List ℕ) (i : ℕ) (a b : List ℕ) → sum_at rows (a ++ b) i ≡ sum_at rows a i ⊕ sum_at rows b i
 unfolding sum_at
 sum_append rows i [] b = sym (zero_⊕ (sum_at rows b i))
 sum_append rows i (s ∷ a) b =
     ap (λ (x : ℕ). get_or rows (s + i) 0 ⊕ x) (sum_append rows i a b) ∙ sym (⊕_assoc (get_or rows (s + i) 0) (sum_at rows a i) (sum_at rows b i))
 
-pub chosen_append : (bit width : ℕ) (a b rows : List ℕ) (i : ℕ)
+chosen_append : (bit width : ℕ) (a b rows : List ℕ) (i : ℕ)
     → sum_chosen bit width (a ++ b) rows i ≡ sum_chosen bit width a rows i ⊕ sum_chosen bit width b (drop (length a * width) rows) i
 unfolding sum_chosen
 chosen_append bit width [] b rows i =
@@ -131,9 +131,9 @@ chunk_at n (suc m) (suc k) xs h =
 -- ---- the rows at the starts, added to a byte
 
 -- a row added, at a byte
-pub part_added : (rows out : List ℕ) (s k i : ℕ) → k ≡ length out → s + k ≤ length rows → i < length out
+pub row_added : (rows out : List ℕ) (s k i : ℕ) → k ≡ length out → s + k ≤ length rows → i < length out
     → get_or (add_row (take k (drop s rows)) out) i 0 ≡ get_or out i 0 ⊕ get_or rows (s + i) 0
-part_added rows out s k i e w h =
+row_added rows out s k i e w h =
     get_or_sum (take k (drop s rows)) out i (omega (arith, length_part s k rows w)) h
     ∙ ap (λ (x : ℕ). get_or out i 0 ⊕ x) (get_or-take k (drop s rows) i 0 (omega arith) ∙ get_or-drop s rows i 0)
 

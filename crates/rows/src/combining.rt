@@ -53,14 +53,15 @@ fn add_chosen(rows: &[u8], numbers: &[u8], bit: u32, out: &mut [u8])
     let width = out.len();
     let mut starts = [0; 64];
     let mut left = rows;
-    for some in numbers.chunks(64) {
+    for some in numbers.chunks(starts.len()) {
         let chosen = collect(some, bit, width, &mut starts);
         add_rows(left, chosen, out);
         left = &left[some.len() * width..];
     }
 }
 
-// The starts of the rows whose number has the bit. Each start is stored, and the next one over it where the number lacks the bit.
+// The starts of the rows whose number has the bit, in the front of `starts`. Each start is stored, and the next one over it where the number
+// lacks the bit.
 fn collect<'a>(numbers: &[u8], bit: u32, width: usize, starts: &'a mut [usize]) -> &'a [usize]
     requires { (bit < 8) × (length numbers.now ≤ length starts.old) × (length numbers.now * width ≤ 18446744073709551615) }
     ensures { Collected bit width numbers.now result.now }
@@ -68,7 +69,7 @@ fn collect<'a>(numbers: &[u8], bit: u32, width: usize, starts: &'a mut [usize]) 
     let mut n = 0;
     for (j, number) in numbers.iter().enumerate() {
         starts[n] = j * width;
-        n += ((*number >> bit) % 2) as usize;
+        n += usize::from((*number >> bit) % 2);
     }
     &starts[..n]
 }

@@ -125,6 +125,7 @@ fn scale(f: Field, vec: &mut [u8], q: u8)
     }
 }
 
+// The loops that read a second row go by the index. tried: zip; after it a proof knows nothing of the bytes that were written through iter_mut.
 fn add_row(dst: &mut [u8], src: &[u8])
     requires { length dst.old ≡ length src.now }
     ensures { dst.new ≡ add_row src.now dst.old }

@@ -4,7 +4,7 @@ use Rattle.std.proofs.Math.Seq.{take-add, get_or-take, get_or-drop, take_all}
 use Rattle.std.proofs.lemmas.List.{take_more}
 use Rattle.galois.specs.Gf.{◌⊕◌}
 use Rattle.rows.specs.Chosen.{sum_at}
-use Rattle.rows.proofs.ChosenLaws.{chunk_at, part_added, sum_one, none_added, more_added}
+use Rattle.rows.proofs.ChosenLaws.{chunk_at, row_added, sum_one, none_added, more_added}
 use Rattle.rows.proofs.combining.add_rows.Goals as goal
 
 pub loop-four-init : goal.loop-four-init
@@ -44,7 +44,7 @@ loop-start-preserved c =
     let size : s + length a.out.now - s ≡ length l.out = omega arith in
     λ i h. more_added a.rows.now i _ (take l.start-index rest) (s ∷ []) (take_more rest l.start-index 0 (omega arith)) (l.invariant i h)
     (ap (λ (o : List ℕ). get_or o i 0) c.add_row.ensures
-    ∙ part_added a.rows.now l.out s (s + length a.out.now - s) i size (omega arith) (omega arith)
+    ∙ row_added a.rows.now l.out s (s + length a.out.now - s) i size (omega arith) (omega arith)
     ∙ ap (λ (x : ℕ). get_or l.out i 0 ⊕ x) (sym (sum_one a.rows.now i s)))
 
 pub returns : goal.returns

@@ -18,7 +18,7 @@ loop-j-preserved c =
     record {
       few = omega (arith, l.invariant.few);
       collected =
-          rw (take_more a.numbers.now l.j 0 (omega arith))
+          rw (c.from-n.ensures, take_more a.numbers.now l.j 0 (omega arith))
           (subst (λ (n : ℕ). Collected a.bit a.width (take l.j a.numbers.now ++ (x ∷ [])) (take (l.n + d) (set l.starts l.n (n * a.width)))) size
           (collects_more a.bit a.width l.starts l.n x l.invariant.collected (omega (arith, l.invariant.few))));
     }
