@@ -3,8 +3,10 @@
 use mathlib.Core.Path.{◌≡◌, refl, ap}
 use mathlib.Core.Bool.{false}
 use mathlib.Core.List.{List, ◌++◌}
-use Prim.Native.Nat.{ℕ, ◌*◌, ◌≤◌}
+use Prim.Native.Nat.{ℕ, ◌*◌, ◌≤◌, ◌<◌}
 use borrow.Author.Tests.{eq-eqb, le-ltb}
+use native.Mathlib.Omega.{arith}
+use lib.Seq.{length-take-le}
 use lib.ListN.{length, take, drop}
 use Rattle.std.specs.Prelude.{Result, Ok, Err}
 use Rattle.answers.specs.declared.RLNCError.TheVariants.{InvalidDecodedDataFormat}
@@ -15,6 +17,7 @@ use Rattle.block.specs.Reading.{reading, answer_of, data_length}
 use Rattle.decoder.specs.declared.Decoder.{Decoder}
 use Rattle.decoder.specs.declared.Taken.{Taken}
 use Rattle.decoder.specs.Records.{k_of, l_of, f_of, rows_in, bad_state}
+use Rattle.decoder.specs.Payloads.{block_at}
 use Rattle.decoder.specs.Entries.{take_refusal, rows_after, taking, Decoded, block_in, recover_refusal, Recovery}
 
 module _ {𝓕 : FieldLaws} {d : Decoder} {elements full : List ℕ} where
@@ -25,15 +28,20 @@ module _ {𝓕 : FieldLaws} {d : Decoder} {elements full : List ℕ} where
 module _ (M : ℕ) (d : Decoder) (elements out : List ℕ) (fine : bad_state d (length elements) ≡ false) (all : rows_in d ≡ k_of d)
     (room : k_of d * l_of d ≤ length out) where
   -- where the tests pass, the padding tells
-  passed : (p : Result ℕ BrokenPadding) → reading M (block_in d elements) ≡ p → recover_refusal M d elements (length out) ≡ answer_of p
-  unfolding recover_refusal
+  passed : (p : Result ℕ BrokenPadding) → reading M (block_at (k_of d) (l_of d) elements) ≡ p → recover_refusal M d elements (length out) ≡ answer_of p
+  unfolding recover_refusal block_in
   passed p e = rw (fine, eq-eqb _ _ all, le-ltb _ _ room) (ap answer_of e)
 
-  pub recover_broken : (b : BrokenPadding) → reading M (block_in d elements) ≡ Err b → Recovery M d elements out (Err InvalidDecodedDataFormat) out
+  pub recover_broken : (b : BrokenPadding) → reading M (block_at (k_of d) (l_of d) elements) ≡ Err b → Recovery M d elements out (Err InvalidDecodedDataFormat) out
   unfolding answer_of
   recover_broken b e = let r = passed (Err b) e in record { result = rw r refl; left = rw r refl }
 
-  pub recover_made : (n : ℕ) (last : List ℕ) → reading M (block_in d elements) ≡ Ok n → last ≡ take n (block_in d elements) ++ drop n out
-      → Recovery M d elements out (Ok n) last
-  unfolding answer_of data_length
-  recover_made n last e h = let r = passed (Ok n) e in record { result = rw (r, e) refl; left = rw (r, e) h }
+  -- the data is put into the first n bytes
+  pub recover_made : (n : ℕ) (part : List ℕ) → reading M (block_at (k_of d) (l_of d) elements) ≡ Ok n → n < k_of d * l_of d
+      → part ≡ take (length (take n out)) (block_at (k_of d) (l_of d) elements) → Recovery M d elements out (Ok n) (part ++ drop n out)
+  unfolding answer_of data_length block_in
+  recover_made n part e l h =
+      let r = passed (Ok n) e in
+      let whole : length (take n out) ≡ n = length-take-le n out (omega arith) in
+      let front : part ≡ take n (block_at (k_of d) (l_of d) elements) = rw whole at h in
+      record { result = rw (r, e) refl; left = rw (r, e) (ap (λ (x : List ℕ). x ++ drop n out) front) }

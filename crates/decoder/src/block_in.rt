@@ -31,6 +31,7 @@ impl<'a> BlockIn<'a> {
     }
 
     // What the padding of the block tells.
+    #[tactic(auto, using(crate::proofs::Marker::index_in, crate::proofs::Payload::length_bytes, crate::proofs::Payload::bytes_within, crate::proofs::Search::reads_none, crate::proofs::Search::reads_zero, crate::proofs::Search::reads_tail, crate::proofs::Search::reads_data))]
     pub fn data_len(&self) -> Result<usize, BrokenPadding>
         ensures told { result ≡ reading marker (bytes self.now) }
         ensures inside { IfOk result (λ n. n < self.now.k * self.now.len) }
@@ -48,6 +49,7 @@ impl<'a> BlockIn<'a> {
     }
 
     // The index of the block's last marker.
+    #[tactic(auto, using(crate::proofs::Marker::index_in, crate::proofs::Payload::bytes_within, crate::proofs::Search::none_behind, crate::proofs::Search::row_marked, crate::proofs::Search::row_unmarked))]
     fn find_marker(&self) -> Option<usize>
         ensures { result ≡ last_marker marker (bytes self.now) }
     {

@@ -99,14 +99,26 @@ impl Decoder {
         self.is_sound() && k * (k + self.piece_byte_len) <= n
     }
 
-    // A record with other numbers is refused.
+    // Refused where the record's numbers are bad.
     fn checked(self) -> Answer
         ensures { result ≡ pick (sound self) (Ok tt) (Err BadState) }
     {
-        if !self.is_sound() {
-            return Err(RLNCError::BadState);
+        if self.is_sound() {
+            Ok(())
+        } else {
+            Err(RLNCError::BadState)
         }
-        Ok(())
+    }
+
+    // Refused where they are, or where the lent matrix is shorter than they say.
+    fn admit(self, elements: &[u8]) -> Answer
+        ensures { result ≡ pick (bad_state self (length elements.now)) (Err BadState) (Ok tt) }
+    {
+        if self.holds(elements.len()) {
+            Ok(())
+        } else {
+            Err(RLNCError::BadState)
+        }
     }
 
     #[tactic(auto, unfolding(block::specs::Counts::counted))]
@@ -169,9 +181,7 @@ impl Decoder {
     ) -> Result<Taken, RLNCError>
         ensures { Decoded (field_of f) self elements.old full_coded_piece.now result elements.new }
     {
-        if !self.holds(elements.len()) {
-            return Err(RLNCError::BadState);
-        }
+        self.admit(elements)?;
         if self.useful_piece_count.0 == self.required_piece_count {
             return Err(RLNCError::ReceivedAllPieces);
         }
@@ -185,6 +195,7 @@ impl Decoder {
     }
 
     // The same where nothing refuses it; then neither do the rules.
+    #[tactic(auto, using(crate::proofs::Accepted::accepted))]
     fn take_piece(self, f: Field, elements: &mut [u8], full_coded_piece: &[u8]) -> Taken
         requires { take_refusal self (length elements.old) (length full_coded_piece.now) ≡ Ok tt }
         ensures { Decoded (field_of f) self elements.old full_coded_piece.now (Ok result) elements.new }
@@ -223,9 +234,7 @@ impl Decoder {
     pub fn get_decoded_data(self, elements: &[u8], data: &mut [u8]) -> Result<usize, RLNCError>
         ensures { Recovery marker self elements.now «data».old result «data».new }
     {
-        if !self.holds(elements.len()) {
-            return Err(RLNCError::BadState);
-        }
+        self.admit(elements)?;
         if self.useful_piece_count.0 != self.required_piece_count {
             return Err(RLNCError::NotAllPiecesReceivedYet);
         }

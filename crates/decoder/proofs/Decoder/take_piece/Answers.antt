@@ -1,15 +1,9 @@
 -- `decoder::Decoder::take_piece` meets its contract: the matrix refuses nothing, and leaves the rows that the definition says.
-use Rattle.std.proofs.Common.{refl, arith}
+use Rattle.std.proofs.Common.{refl}
 use Rattle.field.specs.FieldOf.{field_of}
 use Rattle.decoder.proofs.Accepted.{accepted}
 use Rattle.decoder.proofs.Taking.{added, reduced, as_many, others}
 use Rattle.decoder.proofs.Decoder.take_piece.Goals as goal
-
-pub overflow_add-matrix : goal.overflow_add-matrix
-overflow_add-matrix c = omega (arith, (accepted c.args.self _ _ c.requires).held.numbers)
-
-pub overflow_add-after : goal.overflow_add-after
-overflow_add-after c = omega (arith, (accepted c.args.self _ _ c.requires).wanted)
 
 pub unwrap-longer-requires : goal.unwrap-longer-requires
 unwrap-longer-requires c =
