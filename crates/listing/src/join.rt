@@ -60,10 +60,7 @@ impl Joining {
         if out.len() < LINE_LEN {
             return Err(RLNCError::NoRoom);
         }
-        if self.pieces < self.repeats {
-            return Err(RLNCError::BadState);
-        }
-        if u64::MAX <= self.pieces {
+        if self.pieces < self.repeats || self.pieces == u64::MAX {
             return Err(RLNCError::BadState);
         }
         let held = self.start(g, elements)?;
