@@ -1,16 +1,17 @@
 -- The turns of the reading: what a body brings, where the reader goes, and that every input of fewer than 2^64 - 1 bytes is read in no more turns than it
 -- has bytes, and one.
 -- Assumes nothing.
-use mathlib.Core.Path.{◌≡◌, refl, sym, ap, ◌∙◌, subst}
+use mathlib.Core.Path.{◌≡◌, refl, ap, ◌∙◌, subst}
 use mathlib.Core.Bool.{Bool, true, false}
 use mathlib.Core.List.{List, [], ◌∷◌}
 use Prim.Native.Nat.{ℕ, zero, suc, ◌+◌, ◌≤◌, ◌<◌}
-use native.Mathlib.Nat.{not-suc-le-zero, zero-add, suc-add}
+use native.Mathlib.Nat.{not-suc-le-zero}
 use native.Mathlib.Omega.{arith}
 use borrow.Author.Tests.{ltb-true, ltb-false}
 use lib.Dec.{ltb}
 use lib.ListN.{length, take, drop, length-take, length-drop}
 use lib.Seq.{drop-drop}
+use Rattle.std.proofs.lemmas.List.{drop-take}
 use Rattle.std.specs.Prelude.{Option, Some, None, Result, Ok, Err}
 use Rattle.answers.specs.declared.RLNCError.{RLNCError}
 use Rattle.answers.specs.declared.RLNCError.TheVariants.{CutRecord}
@@ -27,18 +28,6 @@ use Rattle.reader.specs.declared.Then.{Then}
 use Rattle.reader.specs.Reading.{started, wanted, opened_by, place_by, brought_by, on, brings, progress}
 use Rattle.reader.specs.Pump.{Reads, done, turn}
 use Rattle.reader.proofs.Reading.{body_cut, body_whole, place_decides}
-
-drop_take : (a b : ℕ) (l : List ℕ) → drop a (take (a + b) l) ≡ take b (drop a l)
-drop_take zero b l = ap (λ (n : ℕ). take n l) (zero-add b)
-drop_take (suc a) b [] = drop_nil (suc a + b) ∙ sym (take_nil b)
-  where
-    take_nil : (n : ℕ) → take {A = ℕ} n [] ≡ []
-    take_nil zero = refl
-    take_nil (suc n) = refl
-
-    drop_nil : (n : ℕ) → drop (suc a) (take {A = ℕ} n []) ≡ []
-    drop_nil n = ap (drop (suc a)) (take_nil n)
-drop_take (suc a) b (x ∷ xs) = ap (λ (n : ℕ). drop (suc a) (take n (x ∷ xs))) (suc-add a b) ∙ drop_take a b xs
 
 -- ---- what is wanted, brought
 
@@ -59,7 +48,7 @@ module _ (g : Geometry) (so_far : Option Geometry) (at : ℕ) (left : List ℕ) 
   unfolding brings
   brings_whole h k =
       decided ∙ body_whole g (body_at g so_far at) (take (body_of g + 1) left) (simp length-take (omega arith)) k
-      ∙ ap (λ (l : List ℕ). Ok (on (Some g) (at + 1 + body_of g) (came·.Piece g) (opened_by (Some g) l))) (drop_take (body_of g) 1 left)
+      ∙ ap (λ (l : List ℕ). Ok (on (Some g) (at + 1 + body_of g) (came·.Piece g) (opened_by (Some g) l))) (drop-take (body_of g) 1 left)
 
 -- ---- the whole input
 
