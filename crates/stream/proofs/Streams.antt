@@ -13,7 +13,8 @@ use lib.Dec.{eqb}
 use lib.ListN.{length, take, drop, length-append, length-drop}
 use lib.Seq.{take_at, drop_at, drop-drop}
 use borrow.Author.Tests.{eq-eqb, le-ltb}
-use Rattle.answers.specs.Number.{Answer}
+use Rattle.answers.specs.Number.{Answer, number_of}
+use Rattle.answers.proofs.Numbers.{numbers_tell}
 use Rattle.answers.specs.declared.RLNCError.{RLNCError}
 use Rattle.answers.specs.declared.RLNCError.TheVariants.{CutRecord}
 use Rattle.linear.specs.All.{All, more}
@@ -102,10 +103,10 @@ starts bytes = refl
 -- ---- what is written reads back
 
 -- an output that `write` answers Ok for holds the piece's record
-pub written_record : {g : Geometry} {piece out last : List ℕ} → Written g piece out (Ok tt) last → last ≡ records_of g (piece ∷ [])
+pub written_record : {g : Geometry} {piece out last : List ℕ} {r : Answer} → Written g piece out r last → number_of r ≡ 0 → last ≡ records_of g (piece ∷ [])
 unfolding records_of
-written_record {g} {piece} {out} w =
-    w.left ∙ ap (λ (a : Answer). if_ok a (kind_of g ∷ piece) out) (sym w.result) ∙ ap (λ (l : List ℕ). kind_of g ∷ l) (sym (append-nil piece))
+written_record {g} {piece} {out} {r = r} w e =
+    w.left ∙ ap (λ (a : Answer). if_ok a (kind_of g ∷ piece) out) (sym w.result ∙ (numbers_tell r (Ok tt)).1 e) ∙ ap (λ (l : List ℕ). kind_of g ∷ l) (sym (append-nil piece))
 
 listed : (g : Geometry) → (eqb (kind_of g) 0x01 ≡ false) × (geometry_of (kind_of g) ≡ Some g)
 unfolding geometry_of
