@@ -70,19 +70,12 @@ impl DecoderMatrix {
         Ok(held.matrix)
     }
 
-    // rows ≤ k ≤ cols, and k rows fit into n bytes: where k · cols might be no usize, by a division, which takes longer than a product.
-    #[tactic(auto, using(crate::proofs::Sizes::by_division), unfolding(crate::specs::Matrix::sizes_fit))]
+    // rows ≤ k ≤ cols, and k rows fit into n bytes.
+    #[tactic(auto, unfolding(crate::specs::Matrix::sizes_fit))]
     fn sizes_fit(self, n: usize) -> bool
         ensures { result ≡ sizes_fit self n }
     {
         let k = self.num_pieces_coded_together;
-        let cols = self.cols;
-        if k < self.rows || cols < k {
-            return false;
-        }
-        if cols <= 65536 {
-            return k * cols <= n;
-        }
-        k <= n / cols
+        self.rows <= k && k <= self.cols && k.checked_mul(self.cols).is_some_and(|size| size <= n)
     }
 }

@@ -48,6 +48,7 @@ impl Held<'_> {
         (i..self.matrix.rows).find(|&j| self.elements[j * cols + i] != 0)
     }
 
+    // Two rows held change places.
     #[tactic(auto, using(crate::proofs::Sizes::row_in))]
     pub(crate) fn swap_rows(&mut self, i: usize, j: usize)
         requires i_is_held { i < self.old.matrix.rows }

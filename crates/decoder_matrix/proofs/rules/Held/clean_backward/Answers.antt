@@ -7,9 +7,6 @@ use Rattle.decoder_matrix.proofs.Applied.{stays, as_many, as_well, and_then}
 use Rattle.decoder_matrix.proofs.Passes.{backward_step}
 use Rattle.decoder_matrix.proofs.rules.Held.clean_backward.Goals as goal
 
-pub loop-i-init : goal.loop-i-init
-loop-i-init c = record { many = refl; left = λ last a. a }
-
 pub loop-i-preserved : goal.loop-i-preserved
 loop-i-preserved c =
     let v = c.loop-i.invariant in
