@@ -2,7 +2,7 @@
 // complete, and recovers the data.
 #![tactic(auto)]
 
-ghost use Rattle.std.specs.Prelude.{◌≡◌, false, not, ◌+◌, ◌-◌, ◌*◌, ◌≤◌, length, take, drop, Ok, Err};
+ghost use Rattle.std.specs.Prelude.{◌≡◌, not, ◌+◌, ◌-◌, length, Ok, Err};
 ghost use Rattle.answers.specs.declared.RLNCError.TheVariants.{BadState};
 ghost use Rattle.field.specs.FieldOf.{field_of};
 ghost use Rattle.linear.specs.Choice.{pick};
