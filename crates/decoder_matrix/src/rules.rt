@@ -142,7 +142,7 @@ impl Held<'_> {
         rows::is_zero(&self.elements[a..a + self.matrix.num_pieces_coded_together])
     }
 
-    // Row `from` copied over row `to`, which is before it or the same.
+    // Row `from` copied over row `to`, which is before it. Where both are the same, most often, nothing is left to copy.
     #[tactic(auto, using(crate::proofs::Sizes::row_in))]
     fn move_row(&mut self, from: usize, to: usize)
         requires order { to ≤ from }
