@@ -1,12 +1,15 @@
 -- What a refusal chooses, and a part of it, handed out as its number and its value.
 -- Assumes nothing.
 use mathlib.Core.Path.{◌≡◌, refl, ap, ◌∙◌, subst}
+use mathlib.Core.Bool.{Bool}
 use Prim.Native.Nat.{ℕ}
 use Rattle.std.specs.Prelude.{Result, Ok, Err, IsOkAnd, MatchResult}
 use Rattle.std.specs.Result.{result_unwrap_or}
 use Rattle.answers.specs.Number.{Answer, number_of}
 use Rattle.answers.specs.declared.RLNCError.{RLNCError}
 use Rattle.block.specs.Refusal.{if_ok, answered}
+use Rattle.block.specs.Counts.{count_number}
+use Rattle.decoder.specs.Answers.{complete_number}
 use Rattle.rlnc.specs.Given.{number_in, Given}
 
 -- what `map` leaves of a result that a refusal chooses
@@ -34,3 +37,15 @@ module _ (a : Answer) (n : ℕ) {before r after : ℕ} {c : Result ℕ RLNCError
 
   pub given_value : after ≡ if_ok a n before
   given_value = g.stored ∙ ap (λ (x : Result ℕ RLNCError). result_unwrap_or x before) e ∙ value_is a n before
+
+-- ---- the number that is handed out is the paper's, of a count and of whether a decoder is complete
+
+pub count_numbered : (c : Result ℕ RLNCError) → number_in c ≡ count_number c
+unfolding count_number
+count_numbered (Ok n) = refl
+count_numbered (Err e) = refl
+
+pub complete_numbered : (c : Result Bool RLNCError) → number_in c ≡ complete_number c
+unfolding complete_number
+complete_numbered (Ok b) = refl
+complete_numbered (Err e) = refl
