@@ -97,7 +97,7 @@ fn make_room(
     Ok(0)
 }
 
-// Reads what the machine wants, and feeds it. Its text stands in the buffer from here on.
+// Reads what the machine wants, and feeds it. Its text is put into the buffer from `from` on.
 #[tactic(auto, using(crate::proofs::Within::want_short, crate::proofs::Within::fed_in))]
 fn turn(rt: &HostRuntime, m: Joiner, lent: &mut Lent, from: usize) -> Result<Fed, RLNCError>
     requires { from + text_room ≤ OUT_LEN }
@@ -128,23 +128,22 @@ fn run(rt: &HostRuntime, mode: Mode, lent: &mut Lent) -> Result<u8, Failure> {
         let last = from + fed.first;
         used = last + fed.later;
         if m.wants() == 0 {
-            return end(rt, mode, m.ending, &lent.block, &lent.out[..used], last);
+            let text = &lent.out[..used];
+            return end(rt, mode, m.ending, &lent.block, text, &text[last..]);
         }
     }
     Err(Failure::TooLong)
 }
 
-// The end: 0 for a set that was rebuilt, 1 for one that was not, 2 for a stream that stopped. The last lines begin at `last`.
+// The end: 0 for a set that was rebuilt, 1 for one that was not, 2 for a stream that stopped.
 fn end(
     rt: &HostRuntime,
     mode: Mode,
     ending: Ending,
     block: &[u8],
     text: &[u8],
-    last: usize,
-) -> Result<u8, Failure>
-    requires { last ≤ length text.now }
-{
+    last_lines: &[u8],
+) -> Result<u8, Failure> {
     match (mode, ending) {
         (Mode::Data, Ending::Rebuilt(n)) => {
             let Some(found) = block.get(..n) else {
@@ -152,7 +151,7 @@ fn end(
             };
             write(rt, found)?;
         }
-        (Mode::Data, _) => Print::write_all(&rt.stderr(), &text[last..]).map_err(Failure::Errors)?,
+        (Mode::Data, _) => Print::write_all(&rt.stderr(), last_lines).map_err(Failure::Errors)?,
         _ => write(rt, text)?,
     }
     match ending {
