@@ -1,27 +1,34 @@
--- The paper's table of answer numbers.
-use Rattle.std.specs.Prelude.{ℕ}
-use Rattle.answers.specs.declared.Answer.{Answer}
-use Rattle.answers.specs.declared.Answer.TheVariants.{Ok, CodingVectorLengthMismatch, DataLengthMismatch, PieceCountZero, DataLengthZero, PieceLengthZero, NotEnoughPiecesToRecode, PieceLengthTooShort, PieceNotUseful, ReceivedAllPieces, NotAllPiecesReceivedYet, InvalidDecodedDataFormat, InvalidPieceLength, InvalidOutputBuffer, SizeOverLimit, NoRoom, BadState, TooManyTaken, UnknownKind, CutRecord, MixedKinds}
+-- The paper's table of answer numbers. An answer is `Ok`, which has the number 0, or an error.
+use Rattle.std.specs.Prelude.{ℕ, Result, Ok, Err, ⊤}
+use Rattle.answers.specs.declared.RLNCError.{RLNCError}
+use Rattle.answers.specs.declared.RLNCError.TheVariants.{CodingVectorLengthMismatch, DataLengthMismatch, PieceCountZero, DataLengthZero, PieceLengthZero, NotEnoughPiecesToRecode, PieceLengthTooShort, PieceNotUseful, ReceivedAllPieces, NotAllPiecesReceivedYet, InvalidDecodedDataFormat, InvalidPieceLength, InvalidOutputBuffer, SizeOverLimit, NoRoom, BadState, TooManyTaken, UnknownKind, CutRecord, MixedKinds}
+
+abbrev pub code_of : RLNCError → ℕ
+code_of CodingVectorLengthMismatch = 1
+code_of DataLengthMismatch = 2
+code_of PieceCountZero = 3
+code_of DataLengthZero = 4
+code_of PieceLengthZero = 5
+code_of NotEnoughPiecesToRecode = 6
+code_of PieceLengthTooShort = 7
+code_of PieceNotUseful = 8
+code_of ReceivedAllPieces = 9
+code_of NotAllPiecesReceivedYet = 10
+code_of InvalidDecodedDataFormat = 11
+code_of InvalidPieceLength = 12
+code_of InvalidOutputBuffer = 13
+code_of SizeOverLimit = 20
+code_of NoRoom = 21
+code_of BadState = 22
+code_of TooManyTaken = 23
+code_of UnknownKind = 24
+code_of CutRecord = 25
+code_of MixedKinds = 26
+
+-- the answer of a function with nothing else to hand out
+abbrev pub Answer : Type 0
+Answer = Result ⊤ RLNCError
 
 abbrev pub number_of : Answer → ℕ
-number_of Ok = 0
-number_of CodingVectorLengthMismatch = 1
-number_of DataLengthMismatch = 2
-number_of PieceCountZero = 3
-number_of DataLengthZero = 4
-number_of PieceLengthZero = 5
-number_of NotEnoughPiecesToRecode = 6
-number_of PieceLengthTooShort = 7
-number_of PieceNotUseful = 8
-number_of ReceivedAllPieces = 9
-number_of NotAllPiecesReceivedYet = 10
-number_of InvalidDecodedDataFormat = 11
-number_of InvalidPieceLength = 12
-number_of InvalidOutputBuffer = 13
-number_of SizeOverLimit = 20
-number_of NoRoom = 21
-number_of BadState = 22
-number_of TooManyTaken = 23
-number_of UnknownKind = 24
-number_of CutRecord = 25
-number_of MixedKinds = 26
+number_of (Ok x) = 0
+number_of (Err e) = code_of e

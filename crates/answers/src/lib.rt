@@ -1,14 +1,13 @@
-// What an entry of the port answers, ported from src/common/errors.rs: one case for each name of the paper's table, the Rust's names
-// where it has them, and the table's number for each.
+// What an entry of the port answers: `Ok`, or one case for each error of src/common/errors.rs and of the paper's table, under the Rust's names
+// where it has them; and the table's number for each.
 #![tactic(auto)]
 
 ghost use Rattle.std.specs.Prelude.{◌≡◌};
-ghost use Rattle.answers.specs.Number.{number_of};
+ghost use Rattle.answers.specs.Number.{code_of, number_of};
 
-// All but Ok and PieceNotUseful are refusals.
-#[derive(Clone, Copy)]
-pub enum Answer {
-    Ok,
+// All but PieceNotUseful are refusals.
+#[derive(Clone, Copy, PartialEq, Eq, Debug)]
+pub enum RLNCError {
     CodingVectorLengthMismatch,
     DataLengthMismatch,
     PieceCountZero,
@@ -31,32 +30,43 @@ pub enum Answer {
     MixedKinds,
 }
 
-impl Answer {
+pub type Answer = Result<(), RLNCError>;
+
+impl RLNCError {
     pub fn number(self) -> u8
-        ensures { result ≡ number_of self }
+        ensures { result ≡ code_of self }
     {
         match self {
-            Answer::Ok => 0,
-            Answer::CodingVectorLengthMismatch => 1,
-            Answer::DataLengthMismatch => 2,
-            Answer::PieceCountZero => 3,
-            Answer::DataLengthZero => 4,
-            Answer::PieceLengthZero => 5,
-            Answer::NotEnoughPiecesToRecode => 6,
-            Answer::PieceLengthTooShort => 7,
-            Answer::PieceNotUseful => 8,
-            Answer::ReceivedAllPieces => 9,
-            Answer::NotAllPiecesReceivedYet => 10,
-            Answer::InvalidDecodedDataFormat => 11,
-            Answer::InvalidPieceLength => 12,
-            Answer::InvalidOutputBuffer => 13,
-            Answer::SizeOverLimit => 20,
-            Answer::NoRoom => 21,
-            Answer::BadState => 22,
-            Answer::TooManyTaken => 23,
-            Answer::UnknownKind => 24,
-            Answer::CutRecord => 25,
-            Answer::MixedKinds => 26,
+            RLNCError::CodingVectorLengthMismatch => 1,
+            RLNCError::DataLengthMismatch => 2,
+            RLNCError::PieceCountZero => 3,
+            RLNCError::DataLengthZero => 4,
+            RLNCError::PieceLengthZero => 5,
+            RLNCError::NotEnoughPiecesToRecode => 6,
+            RLNCError::PieceLengthTooShort => 7,
+            RLNCError::PieceNotUseful => 8,
+            RLNCError::ReceivedAllPieces => 9,
+            RLNCError::NotAllPiecesReceivedYet => 10,
+            RLNCError::InvalidDecodedDataFormat => 11,
+            RLNCError::InvalidPieceLength => 12,
+            RLNCError::InvalidOutputBuffer => 13,
+            RLNCError::SizeOverLimit => 20,
+            RLNCError::NoRoom => 21,
+            RLNCError::BadState => 22,
+            RLNCError::TooManyTaken => 23,
+            RLNCError::UnknownKind => 24,
+            RLNCError::CutRecord => 25,
+            RLNCError::MixedKinds => 26,
         }
+    }
+}
+
+// 0 for `Ok`, and the number of an error.
+pub fn number(answer: Answer) -> u8
+    ensures { result ≡ number_of answer }
+{
+    match answer {
+        Ok(()) => 0,
+        Err(e) => e.number(),
     }
 }

@@ -2,37 +2,33 @@
 -- Assumes nothing.
 use mathlib.Core.Path.{◌≡◌, refl, sym, ap, ◌∙◌}
 use mathlib.Core.Bool.{Bool, true, false, not}
-use Prim.Native.Nat.{ℕ, zero, suc, ◌<◌}
+use Prim.Native.Nat.{ℕ, ◌<◌}
 use native.Mathlib.Nat.{not-suc-le-zero}
 use native.Mathlib.Omega.{arith}
 use borrow.Author.Tests.{not-true, not-false}
-use Rattle.answers.specs.Number.{number_of}
-use Rattle.answers.specs.declared.Answer.{Answer}
-use Rattle.answers.specs.declared.Answer.TheVariants.{Ok, BadState}
-use Rattle.linear.specs.Choice.{pick, if_zero}
+use Rattle.std.specs.Prelude.{Ok, Err}
+use Rattle.answers.specs.Number.{Answer, number_of}
+use Rattle.answers.specs.declared.RLNCError.TheVariants.{BadState}
+use Rattle.linear.specs.Choice.{pick}
 use Rattle.block.specs.Refusal.{if_ok}
 use Rattle.block.specs.Counts.{counted}
-use Rattle.block.specs.declared.Count.TheVariants.{Of, Refused}
 
 -- a refusal is no Ok
 pub if_refused : {A : Type 0} (a : Answer) (x y : A) → 0 < number_of a → if_ok a x y ≡ y
-if_refused {A} a x y = go (number_of a)
-  where
-    go : (n : ℕ) → 0 < n → if_zero n x y ≡ y
-    go zero h = absurd (not-suc-le-zero h)
-    go (suc n) h = refl
+if_refused (Ok z) x y h = absurd (not-suc-le-zero h)
+if_refused (Err e) x y h = refl
 
-pub counts : {t : Bool} (n : ℕ) → t ≡ true → Of n ≡ counted t n
+pub counts : {t : Bool} (n : ℕ) → t ≡ true → Ok n ≡ counted t n
 unfolding counted
 counts n e = rw e refl
 
-pub counts_not : {t : Bool} (n : ℕ) → t ≡ false → Refused BadState ≡ counted t n
+pub counts_not : {t : Bool} (n : ℕ) → t ≡ false → Err BadState ≡ counted t n
 unfolding counted
 counts_not n e = rw e refl
 
 -- ---- an order of refusals, from its end
 
-pub passes : (t : Bool) (a b : Answer) → 0 < number_of a → pick t a b ≡ Ok → (t ≡ false) × (b ≡ Ok)
+pub passes : (t : Bool) (a b : Answer) → 0 < number_of a → pick t a b ≡ Ok tt → (t ≡ false) × (b ≡ Ok tt)
 passes true a b n e = let z : number_of a ≡ 0 = ap number_of e in absurd (omega arith)
 passes false a b n e = (refl, e)
 

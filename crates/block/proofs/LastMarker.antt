@@ -4,7 +4,7 @@ use mathlib.Core.Path.{◌≡◌, refl, sym, ap, ◌∙◌}
 use mathlib.Core.Logic.{◌≢◌}
 use mathlib.Core.Bool.{true, false, ◌&&◌, false≢true}
 use mathlib.Core.List.{List, [], ◌∷◌, ◌++◌}
-use mathlib.Core.Option.{Option, none, some}
+use Rattle.std.specs.Prelude.{Option, None, Some}
 use Prim.Native.Nat.{ℕ, zero, suc, ◌+◌, ◌<◌}
 use native.Mathlib.Nat.{not-suc-le-zero, le_of_suc-le-suc, zero-add, suc-add}
 use native.Mathlib.Decide.{ℕ_discrete, dec_lt}
@@ -20,8 +20,8 @@ use Rattle.block.specs.Reading.{later, last_marker}
 -- ---- what the search finds
 
 pub data Found (M : ℕ) (xs : List ℕ) : Option ℕ → Type 0 where
-  nowhere : ((i : ℕ) → i < length xs → get_or xs i 0 ≢ M) → Found M xs none
-  at : {i : ℕ} → LastMarker M xs i → Found M xs (some i)
+  nowhere : ((i : ℕ) → i < length xs → get_or xs i 0 ≢ M) → Found M xs None
+  at : {i : ℕ} → LastMarker M xs i → Found M xs (Some i)
 
 pub found : (M : ℕ) (xs : List ℕ) → Found M xs (last_marker M xs)
 unfolding last_marker
@@ -40,13 +40,13 @@ found M (x ∷ xs) = go (last_marker M xs) (found M xs)
     neither n d zero h e = d e
     neither n d (suc j) h e = n j (le_of_suc-le-suc h) e
 
-    here : ((i : ℕ) → i < length xs → get_or xs i 0 ≢ M) → Dec (x ≡ M) → Found M (x ∷ xs) (pick (eqb x M) (some 0) none)
+    here : ((i : ℕ) → i < length xs → get_or xs i 0 ≢ M) → Dec (x ≡ M) → Found M (x ∷ xs) (pick (eqb x M) (Some 0) None)
     here n (yes e) = rw (eq-eqb x M e) (at {i = 0} (record { inside = omega arith; here = e; last = behind n }))
     here n (no d) = rw (ne_eqb x M d) (nowhere (neither n d))
 
-    go : (o : Option ℕ) → Found M xs o → Found M (x ∷ xs) (later (pick (eqb x M) (some 0) none) o)
-    go none (nowhere n) = here n (ℕ_discrete x M)
-    go (some i) (at l) = at {i = suc i} (record { inside = omega (arith, l.inside); here = l.here; last = after l })
+    go : (o : Option ℕ) → Found M xs o → Found M (x ∷ xs) (later (pick (eqb x M) (Some 0) None) o)
+    go None (nowhere n) = here n (ℕ_discrete x M)
+    go (Some i) (at l) = at {i = suc i} (record { inside = omega (arith, l.inside); here = l.here; last = after l })
 
 -- there is one last marker
 pub one_last : {M : ℕ} {xs : List ℕ} {i j : ℕ} → LastMarker M xs i → LastMarker M xs j → i ≡ j
@@ -57,43 +57,43 @@ one_last {M} {xs} {i} {j} a b = go (dec_lt i j) (dec_lt j i)
     go (no h) (yes k) = absurd (b.last i k a.inside a.here)
     go (no h) (no k) = omega arith
 
-pub last_at : {M : ℕ} {xs : List ℕ} {i : ℕ} → LastMarker M xs i → last_marker M xs ≡ some i
+pub last_at : {M : ℕ} {xs : List ℕ} {i : ℕ} → LastMarker M xs i → last_marker M xs ≡ Some i
 last_at {M} {xs} {i} l = go (last_marker M xs) (found M xs)
   where
-    go : (o : Option ℕ) → Found M xs o → o ≡ some i
-    go none (nowhere n) = absurd (n i l.inside l.here)
-    go (some j) (at k) = ap some (one_last k l)
+    go : (o : Option ℕ) → Found M xs o → o ≡ Some i
+    go None (nowhere n) = absurd (n i l.inside l.here)
+    go (Some j) (at k) = ap Some (one_last k l)
 
-pub last_nowhere : {M : ℕ} (xs : List ℕ) → ((i : ℕ) → i < length xs → get_or xs i 0 ≢ M) → last_marker M xs ≡ none
+pub last_nowhere : {M : ℕ} (xs : List ℕ) → ((i : ℕ) → i < length xs → get_or xs i 0 ≢ M) → last_marker M xs ≡ None
 last_nowhere {M} xs n = go (last_marker M xs) (found M xs)
   where
-    go : (o : Option ℕ) → Found M xs o → o ≡ none
-    go none f = refl
-    go (some i) (at l) = absurd (n i l.inside l.here)
+    go : (o : Option ℕ) → Found M xs o → o ≡ None
+    go None f = refl
+    go (Some i) (at l) = absurd (n i l.inside l.here)
 
 -- ---- a list of two parts
 
 -- the place of the search in the second part, behind n elements, else that in the first
 abbrev pub behind : ℕ → Option ℕ → Option ℕ → Option ℕ
-behind n first none = first
-behind n first (some i) = some (n + i)
+behind n first None = first
+behind n first (Some i) = Some (n + i)
 
 pub last_append : (M : ℕ) (xs ys : List ℕ) → last_marker M (xs ++ ys) ≡ behind (length xs) (last_marker M xs) (last_marker M ys)
 unfolding last_marker
 last_append M [] ys = go (last_marker M ys)
   where
-    go : (o : Option ℕ) → o ≡ behind 0 none o
-    go none = refl
-    go (some i) = ap some (sym (zero-add i))
-last_append M (x ∷ xs) ys = ap (later (pick (eqb x M) (some 0) none)) (last_append M xs ys) ∙ go (last_marker M xs) (last_marker M ys)
+    go : (o : Option ℕ) → o ≡ behind 0 None o
+    go None = refl
+    go (Some i) = ap Some (sym (zero-add i))
+last_append M (x ∷ xs) ys = ap (later (pick (eqb x M) (Some 0) None)) (last_append M xs ys) ∙ go (last_marker M xs) (last_marker M ys)
   where
-    go : (a b : Option ℕ) → later (pick (eqb x M) (some 0) none) (behind (length xs) a b)
-        ≡ behind (length (x ∷ xs)) (later (pick (eqb x M) (some 0) none) a) b
-    go a none = refl
-    go a (some i) = ap some (sym (suc-add (length xs) i))
+    go : (a b : Option ℕ) → later (pick (eqb x M) (Some 0) None) (behind (length xs) a b)
+        ≡ behind (length (x ∷ xs)) (later (pick (eqb x M) (Some 0) None) a) b
+    go a None = refl
+    go a (Some i) = ap Some (sym (suc-add (length xs) i))
 
 -- a second part with no marker, as zeros are
-pub last_front : (M : ℕ) (xs ys : List ℕ) → last_marker M ys ≡ none → last_marker M (xs ++ ys) ≡ last_marker M xs
+pub last_front : (M : ℕ) (xs ys : List ℕ) → last_marker M ys ≡ None → last_marker M (xs ++ ys) ≡ last_marker M xs
 last_front M xs ys e = last_append M xs ys ∙ ap (behind (length xs) (last_marker M xs)) e
 
 -- ---- the test for zeros

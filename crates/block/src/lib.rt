@@ -5,8 +5,6 @@
 ghost use Rattle.std.specs.Prelude.{◌≡◌};
 ghost use Rattle.block.specs.Sizes.{over_limit, sized};
 
-use answers::Answer;
-
 pub const BOUNDARY_MARKER: u8 = 0x81;
 
 // More than 256 pieces, or pieces of more than 4,096 bytes.
@@ -34,18 +32,10 @@ pub fn sizes_fit(piece_count: usize, piece_byte_len: usize) -> bool
     !over_limit(piece_count, piece_byte_len)
 }
 
-// What the padding of a block tells: how many bytes of data it has, or the way in which it breaks the rule.
-#[derive(Clone, Copy)]
-pub enum Padding {
-    Data(usize),
+// The ways in which a block breaks the padding rule.
+#[derive(Clone, Copy, PartialEq, Eq, Debug)]
+pub enum BrokenPadding {
     MarkerAbsent,
     MarkerFirst,
     TailNotZero,
-}
-
-// A number that is asked of a record: 22 where the record's numbers are bad.
-#[derive(Clone, Copy)]
-pub enum Count {
-    Of(usize),
-    Refused(Answer),
 }

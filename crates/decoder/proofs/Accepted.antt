@@ -6,7 +6,8 @@ use Prim.Native.Nat.{ℕ, ◌<◌}
 use native.Mathlib.Omega.{arith}
 use lib.Dec.{eqb, leb}
 use borrow.Author.Tests.{not-false, eqb-true, eqb-false, leb-false}
-use Rattle.answers.specs.declared.Answer.TheVariants.{Ok, BadState, ReceivedAllPieces, InvalidPieceLength, TooManyTaken}
+use Rattle.std.specs.Prelude.{Ok, Err}
+use Rattle.answers.specs.declared.RLNCError.TheVariants.{BadState, ReceivedAllPieces, InvalidPieceLength, TooManyTaken}
 use Rattle.block.proofs.Chosen.{passes}
 use Rattle.decoder.specs.declared.Decoder.{Decoder}
 use Rattle.decoder.specs.Records.{k_of, f_of, rows_in, taken_by, bad_state}
@@ -19,13 +20,13 @@ pub record Accepted (d : Decoder) (room size : ℕ) : Type 0 where
   pub whole : size ≡ f_of d
   pub wanted : taken_by d < 65535
 
-pub accepted : (d : Decoder) (room size : ℕ) → take_refusal d room size ≡ Ok → Accepted d room size
+pub accepted : (d : Decoder) (room size : ℕ) → take_refusal d room size ≡ Ok tt → Accepted d room size
 unfolding take_refusal
 accepted d room size e =
-    let state = passes (bad_state d room) BadState _ (omega arith) e in
-    let all = passes (eqb (rows_in d) (k_of d)) ReceivedAllPieces _ (omega arith) state.1 in
-    let long = passes (not (eqb size (f_of d))) InvalidPieceLength _ (omega arith) all.1 in
-    let many = passes (leb 65535 (taken_by d)) TooManyTaken Ok (omega arith) long.1 in
+    let state = passes (bad_state d room) (Err BadState) _ (omega arith) e in
+    let all = passes (eqb (rows_in d) (k_of d)) (Err ReceivedAllPieces) _ (omega arith) state.1 in
+    let long = passes (not (eqb size (f_of d))) (Err InvalidPieceLength) _ (omega arith) all.1 in
+    let many = passes (leb 65535 (taken_by d)) (Err TooManyTaken) (Ok tt) (omega arith) long.1 in
     let h : Holds d room = holds d room state.0 in
     record {
       held = h;

@@ -5,57 +5,56 @@ use mathlib.Core.Path.{◌≡◌, refl, sym, ap, subst, ◌∙◌}
 use mathlib.Core.Bool.{Bool, true, false, not}
 use mathlib.Core.Logic.{◌⊎◌, inl, inr, ⊎_elim}
 use mathlib.Core.List.{List, [], ◌∷◌, ◌++◌}
-use Prim.Native.Nat.{ℕ, zero, suc, ◌+◌, ◌≤◌}
+use Prim.Native.Nat.{ℕ, ◌+◌, ◌≤◌}
 use native.Mathlib.Nat.{add-zero}
 use native.Mathlib.Omega.{arith}
 use lib.Dec.{eqb, leb}
 use borrow.Author.Tests.{eqb-false}
 use lib.ListN.{length, length-append}
-use Rattle.answers.specs.Number.{number_of}
-use Rattle.answers.specs.declared.Answer.{Answer}
-use Rattle.answers.specs.declared.Answer.TheVariants.{Ok, PieceCountZero, PieceLengthZero, SizeOverLimit, BadState, ReceivedAllPieces, InvalidPieceLength, TooManyTaken}
-use Rattle.answers.proofs.Numbers.{numbers_tell}
+use Rattle.std.specs.Prelude.{Result, Ok, Err}
+use Rattle.answers.specs.Number.{Answer, code_of}
+use Rattle.answers.specs.declared.RLNCError.{RLNCError}
+use Rattle.answers.specs.declared.RLNCError.TheVariants.{PieceCountZero, PieceLengthZero, SizeOverLimit, BadState, ReceivedAllPieces, InvalidPieceLength, TooManyTaken}
 use Rattle.galois.specs.FieldLaws.{FieldLaws}
-use Rattle.linear.specs.Choice.{pick, if_zero}
+use Rattle.linear.specs.Choice.{pick}
 use Rattle.linear.specs.Rows.{take_piece}
 use Rattle.linear.proofs.Buffer.{length_rows_of}
 use Rattle.linear.proofs.Steps.{reduce_le}
 use Rattle.block.specs.Sizes.{over_limit}
+use Rattle.block.specs.Refusal.{answered}
+use Rattle.block.proofs.Bounds.{limited}
 use Rattle.block.proofs.Chosen.{passes}
 use Rattle.decoder.specs.declared.Decoder.{Decoder}
-use Rattle.decoder.specs.declared.Made.TheVariants as new
 use Rattle.decoder.specs.declared.Taken.{Taken}
-use Rattle.decoder.specs.declared.Taken.TheVariants as piece
+use Rattle.decoder.specs.declared.Taken.TheVariants.{Useful, NotUseful}
 use Rattle.decoder.specs.Records.{k_of, f_of, rows_in, taken_by, sound, bad_state, held_rows}
 use Rattle.decoder.specs.Answers.{taken_number, takes, kept}
 use Rattle.decoder.specs.Entries.{decoder_of, new_refusal, NewDecoder, take_refusal, rows_after, after, taking, Decoded}
-use Rattle.decoder.proofs.Sound.{Sound, within, shown}
-use Rattle.decoder.proofs.Outcomes.{if_refused}
+use Rattle.decoder.proofs.Sound.{Sound, shown}
 use Rattle.decoder.proofs.Accepted.{Accepted, accepted}
 
 -- ---- a new record
 
-pub new_sound : {L k : ℕ} {elements last : List ℕ} {d : Decoder} → NewDecoder L k elements (new.Of d) last → sound d ≡ true
+pub new_sound : {L k : ℕ} {elements last : List ℕ} {d : Decoder} → NewDecoder L k elements (Ok d) last → sound d ≡ true
 unfolding new_refusal
 new_sound {L} {k} {elements} {last} {d} h =
-    let (zeroth, same) = made (number_of (new_refusal L k (length elements))) h.result in
-    let bytes = passes (eqb L 0) PieceLengthZero _ (omega arith) ((numbers_tell (new_refusal L k (length elements)) Ok).1 zeroth) in
-    let pieces = passes (eqb k 0) PieceCountZero _ (omega arith) bytes.1 in
-    let limits = within k L (passes (over_limit k L) SizeOverLimit _ (omega arith) pieces.1).0 in
+    let (fine, same) = made (new_refusal L k (length elements)) h.result in
+    let bytes = passes (eqb L 0) (Err PieceLengthZero) _ (omega arith) fine in
+    let pieces = passes (eqb k 0) (Err PieceCountZero) _ (omega arith) bytes.1 in
+    let limits = limited k L (passes (over_limit k L) (Err SizeOverLimit) _ (omega arith) pieces.1).0 in
     ap sound same ∙ shown (decoder_of k L 0 0) (record {
       some_pieces = eqb-false k 0 pieces.0;
       some_bytes = eqb-false L 0 bytes.0;
-      pieces = limits.0;
-      bytes = limits.1;
+      pieces = limits.pieces;
+      bytes = limits.bytes;
       rows_pieces = omega arith;
       rows_taken = omega arith;
       taken = omega arith;
     })
   where
-    made : (n : ℕ) → new.Of d ≡ if_zero n (new.Of (decoder_of k L 0 0)) (new.Refused (new_refusal L k (length elements)))
-        → (n ≡ 0) × (d ≡ decoder_of k L 0 0)
-    made zero e = (refl, cc)
-    made (suc n) e = (cc, cc)
+    made : (a : Answer) → Ok d ≡ answered a (decoder_of k L 0 0) → (a ≡ Ok tt) × (d ≡ decoder_of k L 0 0)
+    made (Ok tt) e = (refl, cc)
+    made (Err x) e = (cc, cc)
 
 -- ---- rows and taken after a piece
 
@@ -66,7 +65,7 @@ module _ (𝓕 : FieldLaws) (d : Decoder) (elements full : List ℕ) where
       let shorter = reduce_le 𝓕 (k_of d) (held_rows d elements ++ (full ∷ [])) in
       omega (arith, shorter, length-append (held_rows d elements) (full ∷ []), length_rows_of (f_of d) (rows_in d) elements)
 
-  pub after_sound : take_refusal d (length elements) (length full) ≡ Ok → sound (after 𝓕 d elements full) ≡ true
+  pub after_sound : take_refusal d (length elements) (length full) ≡ Ok tt → sound (after 𝓕 d elements full) ≡ true
   unfolding after
   after_sound e =
       let a : Accepted d (length elements) (length full) = accepted d (length elements) (length full) e in
@@ -86,48 +85,45 @@ module _ (𝓕 : FieldLaws) (d : Decoder) (elements full : List ℕ) where
   after_taken = refl
 
   -- both answers to a piece that is taken
-  taking_cases : (P : Taken → Type 0) → P (piece.NotUseful (after 𝓕 d elements full)) → P (piece.Useful (after 𝓕 d elements full))
+  taking_cases : (P : Taken → Type 0) → P (NotUseful (after 𝓕 d elements full)) → P (Useful (after 𝓕 d elements full))
       → P (taking 𝓕 d elements full)
   unfolding taking
   taking_cases P n u = go (eqb (length (rows_after 𝓕 d elements full)) (rows_in d))
     where
-      go : (t : Bool) → P (pick t (piece.NotUseful (after 𝓕 d elements full)) (piece.Useful (after 𝓕 d elements full)))
+      go : (t : Bool) → P (pick t (NotUseful (after 𝓕 d elements full)) (Useful (after 𝓕 d elements full)))
       go true = n
       go false = u
 
 -- ---- over the answers of `decode`
 
--- the order ends with Ok, or with a number that takes no piece
+-- the order ends with Ok, or with an error whose number takes no piece
 refusal : (d : Decoder) (room size : ℕ)
-    → (take_refusal d room size ≡ Ok) ⊎ ((number_of (take_refusal d room size) ≡ 0 → ⊥) × (takes (number_of (take_refusal d room size)) ≡ 0))
+    → (take_refusal d room size ≡ Ok tt) ⊎ ((e : RLNCError) × (take_refusal d room size ≡ Err e) × (takes (code_of e) ≡ 0))
 unfolding take_refusal takes
 refusal d room size = go (bad_state d room) (eqb (rows_in d) (k_of d)) (not (eqb size (f_of d))) (leb 65535 (taken_by d))
   where
     chain : Bool → Bool → Bool → Bool → Answer
-    chain b a l m = pick b BadState (pick a ReceivedAllPieces (pick l InvalidPieceLength (pick m TooManyTaken Ok)))
+    chain b a l m = pick b (Err BadState) (pick a (Err ReceivedAllPieces) (pick l (Err InvalidPieceLength) (pick m (Err TooManyTaken) (Ok tt))))
 
-    go : (b a l m : Bool) → (chain b a l m ≡ Ok) ⊎ ((number_of (chain b a l m) ≡ 0 → ⊥) × (takes (number_of (chain b a l m)) ≡ 0))
-    go true a l m = inr (λ h. omega arith, refl)
-    go false true l m = inr (λ h. omega arith, refl)
-    go false false true m = inr (λ h. omega arith, refl)
-    go false false false true = inr (λ h. omega arith, refl)
+    go : (b a l m : Bool) → (chain b a l m ≡ Ok tt) ⊎ ((e : RLNCError) × (chain b a l m ≡ Err e) × (takes (code_of e) ≡ 0))
+    go true a l m = inr (BadState, refl, refl)
+    go false true l m = inr (ReceivedAllPieces, refl, refl)
+    go false false true m = inr (InvalidPieceLength, refl, refl)
+    go false false false true = inr (TooManyTaken, refl, refl)
     go false false false false = inl refl
 
-module _ {𝓕 : FieldLaws} {d : Decoder} {elements full last : List ℕ} {r : Taken} (h : Decoded 𝓕 d elements full r last) where
-  decoded_cases : (P : Taken → Type 0) → ((a : Answer) → takes (number_of a) ≡ 0 → P (piece.Refused a))
-      → (take_refusal d (length elements) (length full) ≡ Ok → P (taking 𝓕 d elements full)) → P r
+module _ {𝓕 : FieldLaws} {d : Decoder} {elements full last : List ℕ} {r : Result Taken RLNCError} (h : Decoded 𝓕 d elements full r last) where
+  decoded_cases : (P : Result Taken RLNCError → Type 0) → ((e : RLNCError) → takes (code_of e) ≡ 0 → P (Err e))
+      → (take_refusal d (length elements) (length full) ≡ Ok tt → P (Ok (taking 𝓕 d elements full))) → P r
   decoded_cases P n t =
-      let a : Answer = take_refusal d (length elements) (length full) in
-      subst P (sym h.result)
-      (⊎_elim (λ e. rw e (t e)) (λ q. subst P (if_refused a (taking 𝓕 d elements full) (piece.Refused a) q.0) (n a q.1))
-      (refusal d (length elements) (length full)))
+      subst P (sym h.result) (⊎_elim (λ e. rw e (t e)) (λ q. rw q.1 (n q.0 q.2)) (refusal d (length elements) (length full)))
 
   -- a record whose numbers are good keeps them good
   pub stays_sound : sound d ≡ true → sound (kept d r) ≡ true
   unfolding kept
   stays_sound s =
       decoded_cases (λ x. sound (kept d x) ≡ true) (λ a n. s)
-      (λ e. taking_cases 𝓕 d elements full (λ x. sound (kept d x) ≡ true) (after_sound 𝓕 d elements full e) (after_sound 𝓕 d elements full e))
+      (λ e. taking_cases 𝓕 d elements full (λ x. sound (kept d (Ok x)) ≡ true) (after_sound 𝓕 d elements full e) (after_sound 𝓕 d elements full e))
 
   -- "Taken equals the number of answers 0 and 8"
   pub counts_taken : taken_by (kept d r) ≡ taken_by d + takes (taken_number r)
@@ -136,5 +132,5 @@ module _ {𝓕 : FieldLaws} {d : Decoder} {elements full last : List ℕ} {r : T
       decoded_cases (λ x. taken_by (kept d x) ≡ taken_by d + takes (taken_number x))
       (λ a n. sym (ap (λ (m : ℕ). taken_by d + m) n ∙ add-zero (taken_by d)))
       (λ e.
-      taking_cases 𝓕 d elements full (λ x. taken_by (kept d x) ≡ taken_by d + takes (taken_number x)) (after_taken 𝓕 d elements full)
+      taking_cases 𝓕 d elements full (λ x. taken_by (kept d (Ok x)) ≡ taken_by d + takes (taken_number (Ok x))) (after_taken 𝓕 d elements full)
       (after_taken 𝓕 d elements full))

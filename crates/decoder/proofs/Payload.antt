@@ -2,12 +2,15 @@
 -- Assumes nothing.
 use mathlib.Core.Path.{◌≡◌, sym, ap, ◌∙◌}
 use mathlib.Core.List.{List, ◌++◌, map}
-use Prim.Native.Nat.{ℕ, zero, suc, ◌+◌, ◌*◌, ◌≤◌, ◌<◌}
-use native.Mathlib.Nat.{le_of_suc-le-suc, not-suc-le-zero, zero-mul, suc-mul, zero-add, add-zero, add_comm}
+use Prim.Native.Nat.{ℕ, zero, suc, ◌+◌, ◌-◌, ◌*◌, ◌≤◌, ◌<◌}
+use native.Mathlib.Nat.{le_of_suc-le-suc, not-suc-le-zero, zero-mul, suc-mul, zero-add, add-zero, add_comm, mul-le-mul_left}
 use native.Mathlib.Omega.{arith}
 use lib.ListN.{length, take, drop, length-append, length-drop}
-use lib.Seq.{take-add, drop_at, drop-drop, length-take-le, drop-append-add}
+use lib.Seq.{take-add, take_at, take_all, drop_at, drop-drop, length-take-le, drop-append-add}
 use Rattle.linear.specs.Buffer.{rows_of, flat}
+use Rattle.linear.proofs.Buffer.{row_end}
+use Rattle.decoder.specs.declared.block_in.BlockIn.{BlockIn}
+use Rattle.decoder.specs.Payloads.{block_at, bytes}
 
 module _ (c L : ℕ) where
   abbrev pub payloads : ℕ → List ℕ → List ℕ
@@ -59,3 +62,24 @@ module _ (c L : ℕ) where
       ∙ from_row n i (drop (c + L) buffer) (le_of_suc-le-suc h) v
       ∙ (λ j. take L ((drop-drop (i * (c + L) + c) (c + L) buffer ∙ ap (λ (k : ℕ). drop k buffer) place) j) ++ sym (past n (i * L + L) buffer r) j)
       ∙ ap (λ (k : ℕ). take L (drop (suc i * (c + L) + c) buffer) ++ drop k (payloads (suc n) buffer)) next
+
+pub length_bytes : (b : BlockIn) → length (bytes b) ≡ b.k * b.len
+length_bytes b = length_payloads b.k b.len b.k b.elements.now b.room
+
+-- an index of the block is one of the buffer
+pub bytes_within : (b : BlockIn) → length (bytes b) ≤ length b.elements.now
+bytes_within b =
+    let payload : b.len ≤ b.k + b.len = omega arith in
+    omega (arith, length_bytes b, mul-le-mul_left b.k payload, b.room)
+
+-- row i's payload
+module _ (k L : ℕ) (elements : List ℕ) (w : k * (k + L) ≤ length elements) where
+  pub payload_at : (i : ℕ) → i < k
+      → take L (take (length elements - (i * (k + L) + k)) (drop (i * (k + L) + k) elements)) ≡ take L (drop (i * L) (block_at k L elements))
+  payload_at i h =
+      let from : ℕ = i * (k + L) + k in
+      let here : List ℕ = take L (drop from elements) in
+      let long : length here ≡ L = length-take-le L (drop from elements) (simp length-drop (omega (arith, row_end (k + L) h))) in
+      let rest : List ℕ = drop (i * L + L) (block_at k L elements) in
+      ap (take L) (take_all (length elements - from) (drop from elements) (simp length-drop (omega arith)))
+      ∙ sym (ap (take L) (from_row k L k i elements h w) ∙ take_at here rest L long)

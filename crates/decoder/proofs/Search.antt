@@ -1,94 +1,80 @@
--- The block searched row by row, where it stands: what is behind a row is what is behind its payload.
+-- The block searched row by row: what is behind a row is what is behind its payload.
 -- Assumes nothing.
 use mathlib.Core.Path.{◌≡◌, refl, sym, ap, ◌∙◌}
-use mathlib.Core.Option.{Option, none, some}
-use mathlib.Core.Bool.{◌&&◌}
+use mathlib.Core.Bool.{Bool, true, false, ◌&&◌}
 use mathlib.Core.List.{List, ◌++◌}
 use Prim.Native.Nat.{ℕ, zero, suc, ◌+◌, ◌-◌, ◌*◌, ◌≤◌, ◌<◌}
-use native.Mathlib.Nat.{suc-mul, add-zero}
+use native.Mathlib.Nat.{suc-mul}
 use native.Mathlib.Numerals.{add-one}
 use native.Mathlib.Omega.{arith}
-use lib.ListN.{length, take, drop, length-drop}
-use lib.Seq.{drop-drop, drop-append-le, length-take-le}
+use lib.ListN.{length, take, drop, take-append-drop, drop_of_length-le}
+use lib.Seq.{drop-drop, drop-append-le}
+use Rattle.std.specs.Prelude.{Some, None, Ok, Err}
 use Rattle.linear.specs.Rows.{all_zero}
-use Rattle.linear.proofs.Buffer.{row_end}
 use Rattle.linear.specs.Choice.{pick}
-use Rattle.block.specs.declared.Padding.{Padding}
-use Rattle.block.specs.declared.Padding.TheVariants.{Data, MarkerAbsent, MarkerFirst, TailNotZero}
+use Rattle.linear.proofs.Buffer.{row_end}
+use Rattle.block.specs.declared.BrokenPadding.TheVariants.{MarkerAbsent, MarkerFirst, TailNotZero}
 use Rattle.block.specs.Reading.{last_marker, read_at, reading}
-use Rattle.block.proofs.Reading.{Reason, carried, reason}
 use Rattle.block.proofs.LastMarker.{last_front, zero_append}
-use Rattle.decoder.specs.declared.Found.TheVariants.{At, Nothing}
-use Rattle.decoder.specs.Search.{found}
+use Rattle.decoder.specs.declared.block_in.BlockIn.{BlockIn}
+use Rattle.decoder.specs.Payloads.{bytes}
 use Rattle.decoder.proofs.Marker.{from}
-use Rattle.decoder.proofs.Payload.{payloads, payload, length_payloads, from_row}
+use Rattle.decoder.proofs.Payload.{length_bytes}
 
-pub found_at : (o : Option ℕ) (j : ℕ) → found o ≡ At j → o ≡ some j
-found_at none j e = let z : ◌≡◌ {A = ℕ} 0 1 = cc in absurd (omega arith)
-found_at (some i) j e = cc
-
-pub found_nothing : (o : Option ℕ) → found o ≡ Nothing → o ≡ none
-found_nothing none e = refl
-found_nothing (some i) e = let z : ◌≡◌ {A = ℕ} 0 1 = cc in absurd (omega arith)
-
-module _ (M k L n : ℕ) (buffer : List ℕ) (i m : ℕ) (s : i + 1 ≡ m) (h : i < n) (w : n * (k + L) ≤ length buffer)
-    (e : last_marker M (drop (m * L) (payloads k L n buffer)) ≡ none) where
-  abbrev row : List ℕ
-  row = take L (drop (i * (k + L) + k) buffer)
-
-  -- with no marker in the rows behind
-  of_row : last_marker M (drop (i * L) (payloads k L n buffer)) ≡ last_marker M row
-  of_row =
+-- row i of a block, of L bytes, and what is behind it
+module _ (block : List ℕ) (L i m : ℕ) (s : i + 1 ≡ m) where
+  pub from_row : drop (i * L) block ≡ take L (drop (i * L) block) ++ drop (m * L) block
+  from_row =
       let next : i * L + L ≡ m * L = sym (ap (λ (x : ℕ). x * L) (sym s ∙ add-one i) ∙ suc-mul i L) in
-      ap (last_marker M) (from_row k L n i buffer h w)
-      ∙ last_front M row (drop (i * L + L) (payloads k L n buffer)) (rw next e)
+      sym (take-append-drop L (drop (i * L) block))
+      ∙ ap (λ (l : List ℕ). take L (drop (i * L) block) ++ l) (drop-drop L (i * L) block ∙ ap (λ (n : ℕ). drop n block) next)
 
-  pub row_marked : (j : ℕ) → last_marker M row ≡ some j → last_marker M (payloads k L n buffer) ≡ some (i * L + j)
-  row_marked j q = from M (payloads k L n buffer) (i * L) j (omega (arith, length_payloads k L n buffer w, row_end L h)) (of_row ∙ q)
+  -- from byte `skip` of the row on: the rest of the row, and what is behind
+  pub zero_row : (skip : ℕ) → skip ≤ length (take L (drop (i * L) block))
+      → all_zero (drop (i * L + skip) block) ≡ (all_zero (drop skip (take L (drop (i * L) block))) && all_zero (drop (m * L) block))
+  zero_row skip h =
+      ap all_zero
+      (sym (drop-drop skip (i * L) block) ∙ ap (drop skip) from_row ∙ drop-append-le skip (take L (drop (i * L) block)) (drop (m * L) block) h)
+      ∙ zero_append (drop skip (take L (drop (i * L) block))) (drop (m * L) block)
 
-  pub row_unmarked : last_marker M row ≡ none → last_marker M (drop (i * L) (payloads k L n buffer)) ≡ none
-  row_unmarked q = of_row ∙ q
+-- there is no marker in the rows from m on, and `part` is the payload of the row before them
+module _ (M : ℕ) (b : BlockIn) where
+  pub none_behind : last_marker M (drop (b.k * b.len) (bytes b)) ≡ None
+  unfolding last_marker
+  none_behind = ap (last_marker M) (drop_of_length-le (bytes b) (omega (arith, length_bytes b)))
 
--- the bytes from byte `skip` of row i on: the rest of the row, and the rows behind it
-module _ (k L n : ℕ) (buffer : List ℕ) (i skip : ℕ) (h : i < n) (t : skip ≤ L) (w : n * (k + L) ≤ length buffer) where
-  from_byte : drop (i * L + skip) (payloads k L n buffer)
-      ≡ take (L - skip) (drop (i * (k + L) + k + skip) buffer) ++ drop ((i + 1) * L + 0) (payloads k L n buffer)
-  from_byte =
-      let here : List ℕ = drop (i * (k + L) + k) buffer in
-      let long : length (take L here) ≡ L = length-take-le L here (simp length-drop (omega (arith, row_end (k + L) h))) in
-      let enough : skip ≤ length here = simp length-drop (omega (arith, row_end (k + L) h)) in
-      let next : i * L + L ≡ (i + 1) * L + 0 = sym (add-zero ((i + 1) * L) ∙ ap (λ (x : ℕ). x * L) (add-one i) ∙ suc-mul i L) in
-      let whole : skip + (L - skip) ≡ L = omega arith in
-      sym (drop-drop skip (i * L) (payloads k L n buffer)) ∙ ap (drop skip) (from_row k L n i buffer h w)
-      ∙ drop-append-le skip (take L here) (drop (i * L + L) (payloads k L n buffer)) (omega (arith, long))
-      ∙ (λ j. (ap (λ (x : ℕ). drop skip (take x here)) (sym whole) ∙ payload skip (L - skip) here enough
-      ∙ ap (take (L - skip)) (drop-drop skip (i * (k + L) + k) buffer)) j ++ drop (next j) (payloads k L n buffer))
+  module _ (m : ℕ) (h : 0 < m) (e : last_marker M (drop (m * b.len) (bytes b)) ≡ None) (part : List ℕ) (p : part ≡ take b.len (drop ((m - 1) * b.len) (bytes b))) where
+    of_row : last_marker M (drop ((m - 1) * b.len) (bytes b)) ≡ last_marker M part
+    of_row =
+        ap (last_marker M) (from_row (bytes b) b.len (m - 1) m (omega arith)) ∙ last_front M (take b.len (drop ((m - 1) * b.len) (bytes b))) (drop (m * b.len) (bytes b)) e
+        ∙ ap (last_marker M) (sym p)
 
-  pub zero_row : all_zero (drop (i * L + skip) (payloads k L n buffer))
-      ≡ (all_zero (take (L - skip) (drop (i * (k + L) + k + skip) buffer)) && all_zero (drop ((i + 1) * L + 0) (payloads k L n buffer)))
-  zero_row = ap all_zero from_byte ∙ zero_append (take (L - skip) (drop (i * (k + L) + k + skip) buffer)) (drop ((i + 1) * L + 0) (payloads k L n buffer))
+    pub row_marked : m ≤ b.k → (j : ℕ) → last_marker M part ≡ Some j → Some ((m - 1) * b.len + j) ≡ last_marker M (bytes b)
+    row_marked l j q =
+        let end = row_end b.len {j = m - 1} {n = b.k} (omega arith) in
+        sym (from M (bytes b) ((m - 1) * b.len) j (omega (arith, end, length_bytes b)) (of_row ∙ q))
+
+    pub row_unmarked : last_marker M part ≡ None → last_marker M (drop ((m - 1) * b.len) (bytes b)) ≡ None
+    row_unmarked q = of_row ∙ q
 
 -- what the padding tells, by what the searches have found
 module _ (M : ℕ) (block : List ℕ) where
-  pub reads_none : last_marker M block ≡ none → MarkerAbsent ≡ reading M block
+  pub reads_none : last_marker M block ≡ None → Err MarkerAbsent ≡ reading M block
   unfolding reading read_at
   reads_none e = rw e
 
-  pub reads_zero : last_marker M block ≡ some 0 → MarkerFirst ≡ reading M block
+  pub reads_zero : last_marker M block ≡ Some 0 → Err MarkerFirst ≡ reading M block
   unfolding reading read_at
   reads_zero e = rw e
 
-  pub reads_some : (n : ℕ) → last_marker M block ≡ some n → (n ≡ 0 → ⊥) → pick (all_zero (drop (n + 1) block)) (Data n) TailNotZero ≡ reading M block
+  reads_some : (n : ℕ) → last_marker M block ≡ Some n → (n ≡ 0 → ⊥) → (z : Bool) → all_zero (drop (n + 1) block) ≡ z
+      → pick z (Ok n) (Err TailNotZero) ≡ reading M block
   unfolding reading read_at
-  reads_some zero e q = absurd (q refl)
-  reads_some (suc n) e q = rw e (ap (λ (i : ℕ). pick (all_zero (drop i block)) (Data (suc n)) TailNotZero) (add-one (suc n)))
+  reads_some zero e q z t = absurd (q refl)
+  reads_some (suc n) e q z t = rw e (ap (λ (b : Bool). pick b (Ok (suc n)) (Err TailNotZero)) (sym t ∙ ap (λ (i : ℕ). all_zero (drop i block)) (add-one (suc n))))
 
-  -- the data is shorter than the block
-  pub data_in : (n : ℕ) → reading M block ≡ Data n → n < length block
-  data_in n e = go (reading M block) (reason M block) e
-    where
-      go : (p : Padding) → Reason M block p → p ≡ Data n → n < length block
-      go (Data m) (carried l p z) e = let same : m ≡ n = cc in omega (arith, l.inside)
-      go MarkerAbsent r e = let z : ◌≡◌ {A = ℕ} 0 1 = cc in absurd (omega arith)
-      go MarkerFirst r e = let z : ◌≡◌ {A = ℕ} 0 1 = cc in absurd (omega arith)
-      go TailNotZero r e = let z : ◌≡◌ {A = ℕ} 0 1 = cc in absurd (omega arith)
+  pub reads_tail : (n : ℕ) → last_marker M block ≡ Some n → (n ≡ 0 → ⊥) → all_zero (drop (n + 1) block) ≡ false → Err TailNotZero ≡ reading M block
+  reads_tail n e q t = reads_some n e q false t
+
+  pub reads_data : (n : ℕ) → last_marker M block ≡ Some n → (n ≡ 0 → ⊥) → all_zero (drop (n + 1) block) ≡ true → Ok n ≡ reading M block
+  reads_data n e q t = reads_some n e q true t

@@ -1,32 +1,24 @@
 -- What the tests of a record say in numbers: the sizes and counts are within their limits, and so is the matrix.
 -- Assumes nothing.
-use mathlib.Core.Path.{◌≡◌, refl}
-use mathlib.Core.Bool.{Bool, true, false, not}
-use Prim.Native.Nat.{ℕ, ◌+◌, ◌*◌, ◌≤◌, ◌<◌}
+use mathlib.Core.Path.{◌≡◌, sym, ◌∙◌}
+use mathlib.Core.Bool.{true, false, not}
+use Prim.Native.Nat.{ℕ, ◌+◌, ◌*◌, ◌≤◌}
 use native.Mathlib.Nat.{mul-le-mul}
 use native.Mathlib.Omega.{arith}
 use lib.Dec.{eqb, leb, ltb}
-use borrow.Author.Tests.{not-true, not-false, eqb-false, leb-true, leb-false, ltb-false, ne_eqb, le-leb, lt-ltb, le-ltb}
+use borrow.Author.Tests.{not-true, not-false, eqb-false, leb-true, ltb-false, ne_eqb, le-leb, le-ltb}
+use Rattle.std.specs.Prelude.{Ok, Err}
+use Rattle.answers.specs.Number.{Answer}
+use Rattle.answers.specs.declared.RLNCError.TheVariants.{BadState}
+use Rattle.linear.specs.Choice.{pick}
 use Rattle.linear.proofs.Choice.{and_true, or_false}
-use Rattle.linear.proofs.Buffer.{row_end}
 use Rattle.block.specs.Sizes.{over_limit, sized}
+use Rattle.block.proofs.Bounds.{limited}
+use Rattle.block.proofs.Chosen.{passes}
 use Rattle.decoder.specs.declared.Decoder.{Decoder}
 use Rattle.decoder.specs.Records.{k_of, l_of, f_of, rows_in, taken_by, sound, bad_state}
 
-pub not_below : (a b : ℕ) → leb a b ≡ not (ltb b a)
-not_below a b = go (leb a b) refl
-  where
-    go : (t : Bool) → leb a b ≡ t → t ≡ not (ltb b a)
-    go true e = rw (le-ltb b a (leb-true a b e))
-    go false e = rw (lt-ltb b a (leb-false a b e))
-
 module _ (k L : ℕ) where
-  pub within : over_limit k L ≡ false → (k ≤ 256) × (L ≤ 4096)
-  unfolding over_limit
-  within e =
-      let o = or_false (ltb 256 k) (ltb 4096 L) e in
-      (ltb-false _ _ o.0, ltb-false _ _ o.1)
-
   pub matrix_small : k ≤ 256 → L ≤ 4096 → k * (k + L) ≤ 1114112
   matrix_small h l = mul-le-mul {n₂ = 256} {m₂ = 4352} h (omega arith)
 
@@ -55,12 +47,12 @@ module _ (d : Decoder) where
       let L = and_true (not (eqb (l_of d) 0)) _ k.1 in
       let r = and_true (leb (rows_in d) (k_of d)) _ s.1 in
       let t = and_true (leb (rows_in d) (taken_by d)) _ r.1 in
-      let w = within (k_of d) (l_of d) (not-true _ L.1) in
+      let w = limited (k_of d) (l_of d) (not-true _ L.1) in
       record {
         some_pieces = eqb-false _ _ (not-true _ k.0);
         some_bytes = eqb-false _ _ (not-true _ L.0);
-        pieces = w.0;
-        bytes = w.1;
+        pieces = w.pieces;
+        bytes = w.bytes;
         rows_pieces = leb-true _ _ r.0;
         rows_taken = leb-true _ _ t.0;
         taken = leb-true _ _ t.1;
@@ -85,6 +77,6 @@ module _ (d : Decoder) where
       let o = or_false (not (sound d)) (ltb n (k_of d * f_of d)) e in
       record { numbers = told (not-false (sound d) o.0); room = ltb-false _ _ o.1 }
 
-  -- row i lies within the matrix
-  pub row_in : {n i : ℕ} → Holds d n → i < k_of d → i * f_of d + f_of d ≤ n
-  row_in h l = omega (arith, row_end (f_of d) l, h.room)
+  -- what `admit` lets through is not in a bad state
+  pub admitted : (n : ℕ) {a : Answer} → a ≡ pick (bad_state d n) (Err BadState) (Ok tt) → a ≡ Ok tt → bad_state d n ≡ false
+  admitted n p o = (passes (bad_state d n) (Err BadState) (Ok tt) (omega arith) (sym p ∙ o)).0

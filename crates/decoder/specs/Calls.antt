@@ -1,5 +1,5 @@
 -- One call of `decode`, by what its contract says: the number, and the record and the buffer after it.
-use Rattle.std.specs.Prelude.{List, ℕ, length}
+use Rattle.std.specs.Prelude.{List, ℕ, length, Ok}
 use Rattle.answers.specs.Number.{number_of}
 use Rattle.galois.specs.FieldLaws.{FieldLaws}
 use Rattle.linear.specs.Buffer.{holding}
@@ -11,7 +11,7 @@ use Rattle.decoder.specs.Entries.{take_refusal, rows_after, after, taking}
 
 module _ (𝓕 : FieldLaws) (d : Decoder) (elements full : List ℕ) where
   unfoldable pub number_next : ℕ
-  number_next = if_ok (take_refusal d (length elements) (length full)) (taken_number (taking 𝓕 d elements full)) (number_of (take_refusal d (length elements) (length full)))
+  number_next = if_ok (take_refusal d (length elements) (length full)) (taken_number (Ok (taking 𝓕 d elements full))) (number_of (take_refusal d (length elements) (length full)))
 
   unfoldable pub record_next : Decoder
   record_next = if_ok (take_refusal d (length elements) (length full)) (after 𝓕 d elements full) d

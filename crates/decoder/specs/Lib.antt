@@ -1,5 +1,5 @@
 pub mod Records
 pub mod Answers
 pub mod Entries
-pub mod Search
+pub mod Payloads
 pub mod Calls

@@ -2,20 +2,20 @@
 // complete, and recovers the data.
 #![tactic(auto)]
 
-ghost use Rattle.std.specs.Prelude.{◌≡◌, false, not, ◌+◌, ◌-◌, ◌*◌, ◌≤◌, min, length, take, drop};
-ghost use Rattle.answers.specs.declared.Answer.TheVariants.{Ok};
+ghost use Rattle.std.specs.Prelude.{◌≡◌, not, ◌+◌, ◌-◌, length, Ok, Err};
+ghost use Rattle.answers.specs.declared.RLNCError.TheVariants.{BadState};
 ghost use Rattle.field.specs.FieldOf.{field_of};
-ghost use Rattle.linear.specs.Rows.{all_zero};
+ghost use Rattle.linear.specs.Choice.{pick};
 ghost use Rattle.block.specs.Padding.{marker};
-ghost use Rattle.block.specs.Reading.{last_marker, reading};
 ghost use Rattle.block.specs.Counts.{counted};
 ghost use Rattle.decoder.specs.Records.{sound, bad_state};
-ghost use Rattle.decoder.specs.Entries.{NewDecoder, take_refusal, Decoded, completed, block_in, Recovery};
-ghost use Rattle.decoder.specs.Search.{found};
+ghost use Rattle.decoder.specs.Entries.{NewDecoder, take_refusal, Decoded, completed, Recovery};
 
-use answers::Answer;
-use block::{BOUNDARY_MARKER, Count, Padding};
-use decoder_matrix::{DecoderMatrix, Matrix};
+mod block_in;
+
+use answers::{Answer, RLNCError};
+use block_in::BlockIn;
+use decoder_matrix::DecoderMatrix;
 use field::Field;
 
 // No more pieces are taken than this.
@@ -37,55 +37,38 @@ pub struct Decoder {
     pub received_piece_count: ReceivedPieceCount,
 }
 
-// A new decoder, or why there is none.
-#[derive(Clone, Copy)]
-pub enum Made {
-    Of(Decoder),
-    Refused(Answer),
-}
-
-// What became of a piece: it was taken, with one row more or fewer, or with as many rows as before; or it was refused.
+// What became of a piece that was taken: there is one row more or fewer, or there are as many rows as before.
 #[derive(Clone, Copy)]
 pub enum Taken {
     Useful(Decoder),
     NotUseful(Decoder),
-    Refused(Answer),
-}
-
-#[derive(Clone, Copy)]
-pub enum Complete {
-    Of(bool),
-    Refused(Answer),
-}
-
-// How many bytes of data were recovered.
-#[derive(Clone, Copy)]
-pub enum Recovered {
-    Data(usize),
-    Refused(Answer),
 }
 
 impl Decoder {
     // A decoder that has taken no piece; its matrix is cleared.
-    #[tactic(auto, using(crate::proofs::Sound::within, crate::proofs::Sound::matrix_small), unfolding(crate::specs::Entries::new_refusal))]
-    pub fn new(piece_byte_len: usize, required_piece_count: usize, elements: &mut [u8]) -> Made
+    #[tactic(auto, using(block::proofs::Bounds::limited, crate::proofs::Sound::matrix_small), unfolding(crate::specs::Entries::new_refusal))]
+    pub fn new(
+        piece_byte_len: usize,
+        required_piece_count: usize,
+        elements: &mut [u8],
+    ) -> Result<Decoder, RLNCError>
         ensures { NewDecoder piece_byte_len required_piece_count elements.old result elements.new }
     {
         if piece_byte_len == 0 {
-            return Made::Refused(Answer::PieceLengthZero);
+            return Err(RLNCError::PieceLengthZero);
         }
         if required_piece_count == 0 {
-            return Made::Refused(Answer::PieceCountZero);
+            return Err(RLNCError::PieceCountZero);
         }
         if block::over_limit(required_piece_count, piece_byte_len) {
-            return Made::Refused(Answer::SizeOverLimit);
+            return Err(RLNCError::SizeOverLimit);
         }
         let size = required_piece_count * (required_piece_count + piece_byte_len);
         if elements.len() < size {
-            return Made::Refused(Answer::NoRoom);
+            return Err(RLNCError::NoRoom);
         }
-        rows::clear(&mut elements[..size]);
-        Made::Of(Decoder {
+        elements[..size].fill(0);
+        Ok(Decoder {
             required_piece_count,
             piece_byte_len,
             useful_piece_count: UsefulPieceCount(0),
@@ -101,16 +84,10 @@ impl Decoder {
         let k = self.required_piece_count;
         let rows = self.useful_piece_count.0;
         let taken = self.received_piece_count.0;
-        if !block::sizes_fit(k, self.piece_byte_len) {
-            return false;
-        }
-        if k < rows {
-            return false;
-        }
-        if taken < rows {
-            return false;
-        }
-        taken <= TAKEN_LIMIT
+        block::sizes_fit(k, self.piece_byte_len)
+            && rows <= k
+            && rows <= taken
+            && taken <= TAKEN_LIMIT
     }
 
     // They are, and k rows fit into n bytes.
@@ -118,99 +95,110 @@ impl Decoder {
     pub fn holds(self, n: usize) -> bool
         ensures { result ≡ not (bad_state self n) }
     {
-        if !self.is_sound() {
-            return false;
-        }
         let k = self.required_piece_count;
-        k * (k + self.piece_byte_len) <= n
+        self.is_sound() && k * (k + self.piece_byte_len) <= n
+    }
+
+    // Refused where the record's numbers are bad.
+    fn checked(self) -> Answer
+        ensures { result ≡ pick (sound self) (Ok tt) (Err BadState) }
+    {
+        if self.is_sound() {
+            Ok(())
+        } else {
+            Err(RLNCError::BadState)
+        }
+    }
+
+    // Refused where they are, or where the lent matrix is shorter than they say.
+    fn admit(self, elements: &[u8]) -> Answer
+        ensures { result ≡ pick (bad_state self (length elements.now)) (Err BadState) (Ok tt) }
+    {
+        if self.holds(elements.len()) {
+            Ok(())
+        } else {
+            Err(RLNCError::BadState)
+        }
     }
 
     #[tactic(auto, unfolding(block::specs::Counts::counted))]
-    pub fn get_num_pieces_coded_together(self) -> Count
+    pub fn get_num_pieces_coded_together(self) -> Result<usize, RLNCError>
         ensures { result ≡ counted (sound self) self.required_piece_count }
     {
-        if !self.is_sound() {
-            return Count::Refused(Answer::BadState);
-        }
-        Count::Of(self.required_piece_count)
+        self.checked()?;
+        Ok(self.required_piece_count)
     }
 
     #[tactic(auto, unfolding(block::specs::Counts::counted))]
-    pub fn get_piece_byte_len(self) -> Count
+    pub fn get_piece_byte_len(self) -> Result<usize, RLNCError>
         ensures { result ≡ counted (sound self) self.piece_byte_len }
     {
-        if !self.is_sound() {
-            return Count::Refused(Answer::BadState);
-        }
-        Count::Of(self.piece_byte_len)
+        self.checked()?;
+        Ok(self.piece_byte_len)
     }
 
     // The coefficients and the payload.
     #[tactic(auto, using(crate::proofs::Sound::told), unfolding(block::specs::Counts::counted))]
-    pub fn get_full_coded_piece_byte_len(self) -> Count
+    pub fn get_full_coded_piece_byte_len(self) -> Result<usize, RLNCError>
         ensures { result ≡ counted (sound self) (self.required_piece_count + self.piece_byte_len) }
     {
-        if !self.is_sound() {
-            return Count::Refused(Answer::BadState);
-        }
-        Count::Of(self.required_piece_count + self.piece_byte_len)
+        self.checked()?;
+        Ok(self.required_piece_count + self.piece_byte_len)
     }
 
     #[tactic(auto, unfolding(block::specs::Counts::counted))]
-    pub fn get_received_piece_count(self) -> Count
+    pub fn get_received_piece_count(self) -> Result<usize, RLNCError>
         ensures { result ≡ counted (sound self) self.received_piece_count.0 }
     {
-        if !self.is_sound() {
-            return Count::Refused(Answer::BadState);
-        }
-        Count::Of(self.received_piece_count.0)
+        self.checked()?;
+        Ok(self.received_piece_count.0)
     }
 
     #[tactic(auto, unfolding(block::specs::Counts::counted))]
-    pub fn get_useful_piece_count(self) -> Count
+    pub fn get_useful_piece_count(self) -> Result<usize, RLNCError>
         ensures { result ≡ counted (sound self) self.useful_piece_count.0 }
     {
-        if !self.is_sound() {
-            return Count::Refused(Answer::BadState);
-        }
-        Count::Of(self.useful_piece_count.0)
+        self.checked()?;
+        Ok(self.useful_piece_count.0)
     }
 
     // How many rows are missing.
     #[tactic(auto, using(crate::proofs::Sound::told), unfolding(block::specs::Counts::counted))]
-    pub fn get_remaining_piece_count(self) -> Count
+    pub fn get_remaining_piece_count(self) -> Result<usize, RLNCError>
         ensures { result ≡ counted (sound self) (self.required_piece_count - self.useful_piece_count.0) }
     {
-        if !self.is_sound() {
-            return Count::Refused(Answer::BadState);
-        }
-        Count::Of(self.required_piece_count - self.useful_piece_count.0)
+        self.checked()?;
+        Ok(self.required_piece_count - self.useful_piece_count.0)
     }
 
     // Takes a piece: a row more, which the rules then reduce with the others.
     #[tactic(auto, using(crate::proofs::Sound::holds), unfolding(crate::specs::Entries::take_refusal))]
-    pub fn decode(self, f: Field, elements: &mut [u8], full_coded_piece: &[u8]) -> Taken
+    pub fn decode(
+        self,
+        f: Field,
+        elements: &mut [u8],
+        full_coded_piece: &[u8],
+    ) -> Result<Taken, RLNCError>
         ensures { Decoded (field_of f) self elements.old full_coded_piece.now result elements.new }
     {
-        if !self.holds(elements.len()) {
-            return Taken::Refused(Answer::BadState);
-        }
+        self.admit(elements)?;
         if self.useful_piece_count.0 == self.required_piece_count {
-            return Taken::Refused(Answer::ReceivedAllPieces);
+            return Err(RLNCError::ReceivedAllPieces);
         }
         if full_coded_piece.len() != self.required_piece_count + self.piece_byte_len {
-            return Taken::Refused(Answer::InvalidPieceLength);
+            return Err(RLNCError::InvalidPieceLength);
         }
         if TAKEN_LIMIT <= self.received_piece_count.0 {
-            return Taken::Refused(Answer::TooManyTaken);
+            return Err(RLNCError::TooManyTaken);
         }
-        self.take_piece(f, elements, full_coded_piece)
+        Ok(self.take_piece(f, elements, full_coded_piece))
     }
 
     // The same where nothing refuses it; then neither do the rules.
-    fn take_piece(mut self, f: Field, elements: &mut [u8], full_coded_piece: &[u8]) -> Taken
-        requires { take_refusal self (length elements.old) (length full_coded_piece.now) ≡ Ok }
-        ensures { Decoded (field_of f) self elements.old full_coded_piece.now result elements.new }
+    #[tactic(auto, using(crate::proofs::Accepted::accepted))]
+    fn take_piece(self, f: Field, elements: &mut [u8], full_coded_piece: &[u8]) -> Taken
+        requires { take_refusal self (length elements.old) (length full_coded_piece.now) ≡ Ok tt }
+        ensures { Decoded (field_of f) self elements.old full_coded_piece.now (Ok result) elements.new }
     {
         let rows_before = self.useful_piece_count.0;
         let matrix = DecoderMatrix {
@@ -218,158 +206,50 @@ impl Decoder {
             rows: rows_before,
             cols: self.required_piece_count + self.piece_byte_len,
         };
-        let Matrix::Of(longer) = matrix.add_row(elements, full_coded_piece) else {
-            return Taken::Refused(Answer::BadState);
+        let longer = matrix.add_row(elements, full_coded_piece).unwrap();
+        let reduced = longer.rref(f, elements).unwrap();
+        let after = Decoder {
+            useful_piece_count: UsefulPieceCount(reduced.rows),
+            received_piece_count: ReceivedPieceCount(self.received_piece_count.0 + 1),
+            ..self
         };
-        let Matrix::Of(reduced) = longer.rref(f, elements) else {
-            return Taken::Refused(Answer::BadState);
-        };
-        let useful = UsefulPieceCount(reduced.rows);
-        let received = ReceivedPieceCount(self.received_piece_count.0 + 1);
-        self.useful_piece_count = useful;
-        self.received_piece_count = received;
         if reduced.rows == rows_before {
-            return Taken::NotUseful(self);
+            Taken::NotUseful(after)
+        } else {
+            Taken::Useful(after)
         }
-        Taken::Useful(self)
     }
 
     // As many rows are held as there are pieces.
     #[tactic(auto, unfolding(crate::specs::Entries::completed))]
-    pub fn is_already_decoded(self) -> Complete
+    pub fn is_already_decoded(self) -> Result<bool, RLNCError>
         ensures { result ≡ completed self }
     {
-        if !self.is_sound() {
-            return Complete::Refused(Answer::BadState);
-        }
-        Complete::Of(self.useful_piece_count.0 == self.required_piece_count)
+        self.checked()?;
+        Ok(self.useful_piece_count.0 == self.required_piece_count)
     }
 
     // Recovers the data: the block that the rows hold, up to its last marker.
     #[tactic(auto, using(crate::proofs::Sound::holds, crate::proofs::Sound::block_small), unfolding(crate::specs::Entries::recover_refusal))]
-    pub fn get_decoded_data(self, elements: &[u8], data: &mut [u8]) -> Recovered
+    pub fn get_decoded_data(self, elements: &[u8], data: &mut [u8]) -> Result<usize, RLNCError>
         ensures { Recovery marker self elements.now «data».old result «data».new }
     {
-        if !self.holds(elements.len()) {
-            return Recovered::Refused(Answer::BadState);
-        }
+        self.admit(elements)?;
         if self.useful_piece_count.0 != self.required_piece_count {
-            return Recovered::Refused(Answer::NotAllPiecesReceivedYet);
+            return Err(RLNCError::NotAllPiecesReceivedYet);
         }
         if data.len() < self.required_piece_count * self.piece_byte_len {
-            return Recovered::Refused(Answer::NoRoom);
+            return Err(RLNCError::NoRoom);
         }
-        let Padding::Data(n) = self.get_final_data_len(elements) else {
-            return Recovered::Refused(Answer::InvalidDecodedDataFormat);
+        let block = BlockIn {
+            k: self.required_piece_count,
+            len: self.piece_byte_len,
+            elements,
         };
-        self.copy_data(elements, &mut data[..n]);
-        Recovered::Data(n)
-    }
-
-    // What the padding of the block tells. The block is read where it stands, in the payloads of the rows.
-    fn get_final_data_len(self, elements: &[u8]) -> Padding
-        requires { bad_state self (length elements.now) ≡ false }
-        ensures { result ≡ reading marker (block_in self elements.now) }
-    {
-        let Found::At(n) = self.find_marker(elements) else {
-            return Padding::MarkerAbsent;
+        let Ok(n) = block.data_len() else {
+            return Err(RLNCError::InvalidDecodedDataFormat);
         };
-        if n == 0 {
-            return Padding::MarkerFirst;
-        }
-        if self.is_zero_from(elements, n + 1) {
-            Padding::Data(n)
-        } else {
-            Padding::TailNotZero
-        }
+        block.copy_to(&mut data[..n]);
+        Ok(n)
     }
-
-    // The index of the block's last marker: rows from the last one up.
-    fn find_marker(self, elements: &[u8]) -> Found
-        requires { bad_state self (length elements.now) ≡ false }
-        ensures { result ≡ found (last_marker marker (block_in self elements.now)) }
-    {
-        let k = self.required_piece_count;
-        let len = self.piece_byte_len;
-        let mut i = k;
-        while 0 < i {
-            i -= 1;
-            let from = i * (k + len) + k;
-            let to = from + len;
-            let f = last_marker(&elements[from..to]);
-            if let Found::At(j) = f {
-                return Found::At(i * len + j);
-            }
-        }
-        Found::Nothing
-    }
-
-    // Whether the block's bytes from `at` on are zero: the rest of a row, then the rows behind it.
-    fn is_zero_from(self, elements: &[u8], at: usize) -> bool
-        requires { bad_state self (length elements.now) ≡ false }
-        ensures { result ≡ all_zero (drop at (block_in self elements.now)) }
-    {
-        let k = self.required_piece_count;
-        let len = self.piece_byte_len;
-        let mut i = at / len;
-        let mut skip = at % len;
-        while i < k {
-            let row = i * (k + len);
-            let from = row + k + skip;
-            let to = row + k + len;
-            if !rows::is_zero(&elements[from..to]) {
-                return false;
-            }
-            skip = 0;
-            i += 1;
-        }
-        true
-    }
-
-    // The block's first bytes, as many as `data` has, copied row by row.
-    fn copy_data(self, elements: &[u8], data: &mut [u8])
-        requires elements_value { bad_state self (length elements.now) ≡ false }
-        requires data_len_bound { length «data».old ≤ self.required_piece_count * self.piece_byte_len }
-        ensures { «data».new ≡ take (length «data».old) (block_in self elements.now) }
-    {
-        let k = self.required_piece_count;
-        let len = self.piece_byte_len;
-        let mut i = 0;
-        let mut at = 0;
-        while at < data.len() {
-            let n = lesser(len, data.len() - at);
-            let from = i * (k + len) + k;
-            let to = from + n;
-            let end = at + n;
-            data[at..end].copy_from_slice(&elements[from..to]);
-            at = end;
-            i += 1;
-        }
-    }
-}
-
-// Where a search ended.
-#[derive(Clone, Copy)]
-enum Found {
-    At(usize),
-    Nothing,
-}
-
-fn last_marker(part: &[u8]) -> Found
-    ensures { result ≡ found (last_marker marker part.now) }
-{
-    let n = part.len();
-    for rev_index in 0..n {
-        let i = n - 1 - rev_index;
-        if part[i] == BOUNDARY_MARKER {
-            return Found::At(i);
-        }
-    }
-    Found::Nothing
-}
-
-fn lesser(a: usize, b: usize) -> usize
-    ensures { result ≡ min a b }
-{
-    if a < b { a } else { b }
 }

@@ -6,3 +6,4 @@ pub mod Keeping
 pub mod Answered
 pub mod OneResult
 pub mod Taking
+pub mod Applied

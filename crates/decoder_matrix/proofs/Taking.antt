@@ -10,7 +10,8 @@ use native.Mathlib.Omega.{arith}
 use lib.Dec.{ltb, eqb}
 use lib.ListN.{length, replicate, length-append}
 use borrow.Author.Tests.{ltb-true, eqb-true, le-leb}
-use Rattle.answers.specs.declared.Answer.{Answer}
+use Rattle.std.specs.Prelude.{Result, Ok, Err}
+use Rattle.answers.specs.declared.RLNCError.{RLNCError}
 use Rattle.galois.specs.FieldLaws.{FieldLaws}
 use Rattle.linear.specs.All.{none, more}
 use Rattle.linear.specs.Choice.{pick}
@@ -21,8 +22,6 @@ use Rattle.linear.proofs.All.{all_append}
 use Rattle.linear.proofs.Buffer.{length_put, row_end, appended, sizes_of, length_rows_of}
 use Rattle.linear.proofs.Steps.{reduce_le}
 use Rattle.decoder_matrix.specs.declared.DecoderMatrix.{DecoderMatrix}
-use Rattle.decoder_matrix.specs.declared.Matrix.{Matrix}
-use Rattle.decoder_matrix.specs.declared.Matrix.TheVariants.{Of, Refused}
 use Rattle.decoder_matrix.specs.Matrix.{k_of, sizes_fit, rows_in, with_rows, holding}
 use Rattle.decoder_matrix.specs.Outcomes.{has_room, RowAdded, reduced, Reduced}
 use Rattle.decoder_matrix.proofs.Sizes.{Sized, sized, fitting}
@@ -31,14 +30,14 @@ use Rattle.linear.proofs.Sizes.{reduce_sizes}
 
 -- ---- a row was added, since a matrix came back
 
-came_back : (s t : Bool) (m m₁ : DecoderMatrix) (a b : Answer) → Of m₁ ≡ pick s (pick t (Of m) (Refused a)) (Refused b) → (m₁ ≡ m) × (s ≡ true) × (t ≡ true)
+came_back : (s t : Bool) (m m₁ : DecoderMatrix) (a b : RLNCError) → Ok m₁ ≡ pick s (pick t (Ok m) (Err a)) (Err b) → (m₁ ≡ m) × (s ≡ true) × (t ≡ true)
 came_back true true m m₁ a b e = (cc, refl, refl)
 came_back true false m m₁ a b e = (cc, refl, cc)
 came_back false t m m₁ a b e = (cc, cc, cc)
 
 -- ---- the two, one after the other
 
-module _ (𝓕 : FieldLaws) {m m₁ : DecoderMatrix} {elements piece e₁ e₂ : List ℕ} {r : Matrix} (add : RowAdded m elements piece (Of m₁) e₁) (rules : Reduced 𝓕 m₁ e₁ r e₂) where
+module _ (𝓕 : FieldLaws) {m m₁ : DecoderMatrix} {elements piece e₁ e₂ : List ℕ} {r : Result DecoderMatrix RLNCError} (add : RowAdded m elements piece (Ok m₁) e₁) (rules : Reduced 𝓕 m₁ e₁ r e₂) where
   -- the rows wanted
   abbrev want : List (List ℕ)
   want = take_piece 𝓕 (k_of m) (rows_in m elements) piece
@@ -87,10 +86,10 @@ module _ (𝓕 : FieldLaws) {m m₁ : DecoderMatrix} {elements piece e₁ e₂ :
       ∙ fitting (with_rows m (m.rows + 1)) (length elements) (omega (arith, tests.room)) tests.size.wide
       ∙ le-leb (k_of m * m.cols) (length elements) tests.size.room
 
-  answer : r ≡ Of (with_rows m (length want))
+  answer : r ≡ Ok (with_rows m (length want))
   answer =
-      let a : r ≡ Of (with_rows m₁ (length (reduced 𝓕 m₁ e₁))) = rw still_fits at rules.answer in
-      a ∙ (λ i. Of (with_rows (tests.next i) (length (rows_are i))))
+      let a : r ≡ Ok (with_rows m₁ (length (reduced 𝓕 m₁ e₁))) = rw still_fits at rules.answer in
+      a ∙ (λ i. Ok (with_rows (tests.next i) (length (rows_are i))))
 
   left : e₂ ≡ holding m want elements
   left =
@@ -111,5 +110,5 @@ module _ (𝓕 : FieldLaws) {m m₁ : DecoderMatrix} {elements piece e₁ e₂ :
       omega (arith, tests.room, reduce_le 𝓕 (k_of m) (rows_in m elements ++ (piece ∷ [])), length-append (rows_in m elements) (piece ∷ []), length_rows_of m.cols m.rows elements)
 
   -- the answer, the bytes left, the rows held then, and that there is room for them
-  pub taking : (r ≡ Of (with_rows m (length want))) × (e₂ ≡ holding m want elements) × (rows_in (with_rows m (length want)) e₂ ≡ want) × (length want ≤ k_of m)
+  pub taking : (r ≡ Ok (with_rows m (length want))) × (e₂ ≡ holding m want elements) × (rows_in (with_rows m (length want)) e₂ ≡ want) × (length want ≤ k_of m)
   taking = (answer, left, held, few)

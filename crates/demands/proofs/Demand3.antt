@@ -3,7 +3,7 @@
 -- Assumes nothing.
 use mathlib.Core.Path.{◌≡◌, refl, sym, ap, ◌∙◌, subst}
 use mathlib.Core.Logic.{◌↔◌}
-use mathlib.Core.Bool.{true, false}
+use mathlib.Core.Bool.{Bool, true, false}
 use mathlib.Core.List.{List, [], ◌∷◌, ◌++◌, map}
 use Prim.Native.Nat.{ℕ, ◌*◌, ◌≤◌, ◌<◌}
 use native.Mathlib.Nat.{pos_of_ne-zero}
@@ -11,23 +11,20 @@ use native.Mathlib.Omega.{arith}
 use lib.Dec.{eqb}
 use lib.ListN.{length, take, drop}
 use borrow.Author.Tests.{eqb-true, eq-eqb, le-ltb}
-use Rattle.answers.specs.declared.Answer.TheVariants.{InvalidDecodedDataFormat}
+use Rattle.std.specs.Prelude.{Result, Ok, Err}
+use Rattle.answers.specs.declared.RLNCError.{RLNCError}
+use Rattle.answers.specs.declared.RLNCError.TheVariants.{InvalidDecodedDataFormat}
 use Rattle.galois.specs.FieldLaws.{FieldLaws}
 use Rattle.linear.specs.Blocks.{Block, Agrees, Unique}
 use Rattle.linear.specs.Buffer.{rows_of, flat}
 use Rattle.linear.proofs.Buffer.{length_rows_of}
 use Rattle.linear.proofs.RowRules.{demand_3, demand_3_recovery}
-use Rattle.block.specs.declared.Padding.{Padding}
-use Rattle.block.specs.declared.Padding.TheVariants.{Data, MarkerAbsent, MarkerFirst, TailNotZero}
-use Rattle.block.specs.Refusal.{if_ok}
+use Rattle.block.specs.declared.BrokenPadding.{BrokenPadding}
+use Rattle.block.specs.Refusal.{if_ok, answered}
 use Rattle.block.specs.Padding.{Breaks, Carries}
 use Rattle.block.specs.Reading.{reading, answer_of, data_length}
 use Rattle.block.proofs.Reading.{reads_data, reads_broken}
 use Rattle.decoder.specs.declared.Decoder.{Decoder}
-use Rattle.decoder.specs.declared.Complete.{Complete}
-use Rattle.decoder.specs.declared.Complete.TheVariants as complete
-use Rattle.decoder.specs.declared.Recovered.{Recovered}
-use Rattle.decoder.specs.declared.Recovered.TheVariants as recovered
 use Rattle.decoder.specs.Records.{k_of, l_of, f_of, rows_in, sound, bad_state, held_rows}
 use Rattle.decoder.specs.Answers.{complete_values, recovered_number, recovered_values}
 use Rattle.decoder.specs.Entries.{completed, block_in, recover_refusal, Recovery}
@@ -37,11 +34,11 @@ use Rattle.decoder.proofs.Sound.{shown}
 use Rattle.demands.proofs.History.{Kept, kept}
 
 -- the answer of the case, told by its values
-pub closed_told : (c : Complete) → (complete_values c ≡ 1 ∷ []) ↔ (c ≡ complete.Of true)
+pub closed_told : (c : Result Bool RLNCError) → (complete_values c ≡ 1 ∷ []) ↔ (c ≡ Ok true)
 unfolding complete_values
-closed_told (complete.Of true) = (λ e. refl, λ e. refl)
-closed_told (complete.Of false) = (λ e. let never : ◌≡◌ {A = ℕ} 0 1 = cc in absurd (omega arith), λ e. let never : ◌≡◌ {A = ℕ} 0 1 = cc in absurd (omega arith))
-closed_told (complete.Refused a) = (λ e. let never : ◌≡◌ {A = ℕ} 0 1 = cc in absurd (omega arith), λ e. let never : ◌≡◌ {A = ℕ} 0 1 = cc in absurd (omega arith))
+closed_told (Ok true) = (λ e. refl, λ e. refl)
+closed_told (Ok false) = (λ e. cc, λ e. cc)
+closed_told (Err a) = (λ e. cc, λ e. cc)
 
 module _ {𝓕 : FieldLaws} {k L : ℕ} {d : Decoder} {elements : List ℕ} {pieces : List (List ℕ)} (h : History 𝓕 k L d elements pieces) where
   abbrev it : Kept 𝓕 k L d elements pieces
@@ -54,28 +51,28 @@ module _ {𝓕 : FieldLaws} {k L : ℕ} {d : Decoder} {elements : List ℕ} {pie
   unfolding held_rows
   held_count = length_rows_of (f_of d) (rows_in d) elements
 
-  pub told : completed d ≡ complete.Of (eqb (rows_in d) (k_of d))
+  pub told : completed d ≡ Ok (eqb (rows_in d) (k_of d))
   unfolding completed
   told = rw fine
 
   -- complete exactly with k rows
-  pub complete_rows : (completed d ≡ complete.Of true) ↔ (length (held_rows d elements) ≡ k)
+  pub complete_rows : (completed d ≡ Ok true) ↔ (length (held_rows d elements) ≡ k)
   complete_rows = (
     λ e. held_count ∙ eqb-true (rows_in d) (k_of d) (same_test (sym told ∙ e)) ∙ it.same_k,
-    λ e. told ∙ ap complete.Of (eq-eqb (rows_in d) (k_of d) (sym held_count ∙ e ∙ sym it.same_k)),
+    λ e. told ∙ ap Ok (eq-eqb (rows_in d) (k_of d) (sym held_count ∙ e ∙ sym it.same_k)),
   )
     where
-      same_test : complete.Of (eqb (rows_in d) (k_of d)) ≡ complete.Of true → eqb (rows_in d) (k_of d) ≡ true
+      same_test : ◌≡◌ {A = Result Bool RLNCError} (Ok (eqb (rows_in d) (k_of d))) (Ok true) → eqb (rows_in d) (k_of d) ≡ true
       same_test e = cc
 
   module _ (block : List (List ℕ)) (b : Block k L block) (a : Agrees 𝓕 k L pieces block) where
-    closes : (completed d ≡ complete.Of true) ↔ Unique 𝓕 k L pieces block
+    closes : (completed d ≡ Ok true) ↔ Unique 𝓕 k L pieces block
     closes =
         let long : 0 < L = subst (λ (n : ℕ). 0 < n) it.same_l (pos_of_ne-zero it.numbers.some_bytes) in
         let iff : (length (held_rows d elements) ≡ k) ↔ Unique 𝓕 k L pieces block = demand_3 𝓕 k L pieces (held_rows d elements) it.held block b a long in
         (λ e. iff.0 (complete_rows.0 e), λ u. complete_rows.1 (iff.1 u))
 
-    module _ (c : completed d ≡ complete.Of true) where
+    module _ (c : completed d ≡ Ok true) where
       -- the payloads, in row order, are the block
       pub the_block : block_in d elements ≡ flat block
       unfolding block_in held_rows
@@ -92,24 +89,24 @@ module _ {𝓕 : FieldLaws} {k L : ℕ} {d : Decoder} {elements : List ℕ} {pie
           let wide : k_of d * l_of d ≤ room = rw (it.same_k, it.same_l) w in
           rw (fine, le-ltb (length elements) (k_of d * f_of d) it.room, eq-eqb (rows_in d) (k_of d) all, le-ltb room (k_of d * l_of d) wide, the_block)
 
-      module _ (M : ℕ) (out last : List ℕ) (r : Recovered) (w : k * L ≤ length out) (g : Recovery M d elements out r last) where
+      module _ (M : ℕ) (out last : List ℕ) (r : Result ℕ RLNCError) (w : k * L ≤ length out) (g : Recovery M d elements out r last) where
         -- what recovery tells, by the block alone
-        by_block : (x : Padding) → reading M (flat block) ≡ x
-            → (r ≡ if_ok (answer_of x) (recovered.Data (data_length x)) (recovered.Refused (answer_of x))) × (last ≡ if_ok (answer_of x) (take (data_length x) (flat block) ++ drop (data_length x) out) out)
+        by_block : (x : Result ℕ BrokenPadding) → reading M (flat block) ≡ x
+            → (r ≡ answered (answer_of x) (data_length x)) × (last ≡ if_ok (answer_of x) (take (data_length x) (flat block) ++ drop (data_length x) out) out)
         by_block x e =
             (g.result ∙ rw (recovers M (length out) w, the_block, e), g.left ∙ rw (recovers M (length out) w, the_block, e))
 
-        data_back : (bytes : List ℕ) → Carries M (flat block) bytes → (r ≡ recovered.Data (length bytes)) × (last ≡ bytes ++ drop (length bytes) out)
+        data_back : (bytes : List ℕ) → Carries M (flat block) bytes → (r ≡ Ok (length bytes)) × (last ≡ bytes ++ drop (length bytes) out)
         unfolding answer_of data_length
         data_back bytes y =
             let (e, front) = (reads_data M (flat block) bytes).0 y in
-            let (p, q) = by_block (Data (length bytes)) e in
+            let (p, q) = by_block (Ok (length bytes)) e in
             (p, q ∙ ap (λ (l : List ℕ). l ++ drop (length bytes) out) front)
 
-        broken : Breaks M (flat block) → (r ≡ recovered.Refused InvalidDecodedDataFormat) × (last ≡ out)
+        broken : Breaks M (flat block) → (r ≡ Err InvalidDecodedDataFormat) × (last ≡ out)
         broken y =
             let (p, q) = by_block (reading M (flat block)) refl in
-            let e : answer_of (reading M (flat block)) ≡ InvalidDecodedDataFormat = (reads_broken M (flat block)).0 y in
+            let e : answer_of (reading M (flat block)) ≡ Err InvalidDecodedDataFormat = (reads_broken M (flat block)).0 y in
             (rw e at p, rw e at q)
 
         -- a number of 11 is the refusal of a block that breaks the rule
@@ -117,11 +114,9 @@ module _ {𝓕 : FieldLaws} {k L : ℕ} {d : Decoder} {elements : List ℕ} {pie
         unfolding recovered_number answer_of
         eleven z = (reads_broken M (flat block)).1 (go (reading M (flat block)) refl)
           where
-            go : (x : Padding) → reading M (flat block) ≡ x → answer_of (reading M (flat block)) ≡ InvalidDecodedDataFormat
-            go (Data n) e = let never : ◌≡◌ {A = ℕ} 0 11 = sym (ap recovered_number (by_block (Data n) e).0) ∙ z in absurd (omega arith)
-            go MarkerAbsent e = ap answer_of e
-            go MarkerFirst e = ap answer_of e
-            go TailNotZero e = ap answer_of e
+            go : (x : Result ℕ BrokenPadding) → reading M (flat block) ≡ x → answer_of (reading M (flat block)) ≡ Err InvalidDecodedDataFormat
+            go (Ok n) e = let never : ◌≡◌ {A = ℕ} 0 11 = sym (ap recovered_number (by_block (Ok n) e).0) ∙ z in absurd (omega arith)
+            go (Err x) e = ap answer_of e
 
   pub demand3 : (M : ℕ) (block : List (List ℕ)) → Block k L block → Agrees 𝓕 k L pieces block → Demand3 𝓕 M k L d elements pieces block
   unfolding recovered_number recovered_values

@@ -4,19 +4,18 @@
 use mathlib.Core.Path.{◌≡◌, refl, sym, ap, ◌∙◌, subst}
 use mathlib.Core.Logic.{◌≢◌}
 use mathlib.Core.List.{List, [], ◌∷◌, ◌++◌}
-use Prim.Native.Nat.{ℕ, zero, suc, ◌*◌, ◌≤◌, ◌<◌}
+use Prim.Native.Nat.{ℕ, suc, ◌*◌, ◌≤◌, ◌<◌}
 use native.Mathlib.Nat.{pos_of_ne-zero}
 use native.Mathlib.Omega.{arith}
 use lib.Dec.{eqb}
 use lib.ListN.{length, get_or, take, drop, length-append}
 use borrow.Author.Tests.{eqb-false}
 use lib.Seq.{take_at}
-use Rattle.answers.specs.Number.{number_of}
-use Rattle.answers.specs.declared.Answer.{Answer}
-use Rattle.answers.specs.declared.Answer.TheVariants.{Ok, PieceCountZero, DataLengthZero}
-use Rattle.answers.proofs.Numbers.{numbers_tell}
+use Rattle.std.specs.Prelude.{Result, Ok, Err}
+use Rattle.answers.specs.Number.{Answer}
+use Rattle.answers.specs.declared.RLNCError.{RLNCError}
+use Rattle.answers.specs.declared.RLNCError.TheVariants.{PieceCountZero, DataLengthZero}
 use Rattle.galois.specs.FieldLaws.{FieldLaws}
-use Rattle.linear.specs.Choice.{if_zero}
 use Rattle.linear.specs.All.{All, none, more, Bytes}
 use Rattle.linear.specs.Pieces.{Truthful}
 use Rattle.linear.specs.Blocks.{Agrees}
@@ -24,19 +23,18 @@ use Rattle.linear.specs.Buffer.{rows_of, flat}
 use Rattle.linear.proofs.All.{all_imp}
 use Rattle.linear.proofs.Buffer.{length_rows_of}
 use Rattle.linear.proofs.Flat.{flat_front}
+use Rattle.block.specs.Refusal.{if_ok, answered}
 use Rattle.block.specs.Padding.{piece_length, padded, Carries}
 use Rattle.block.proofs.Chosen.{passes}
 use Rattle.block.proofs.Filling.{length_padded}
 use Rattle.block.proofs.Reading.{round_trip}
 use Rattle.block.proofs.RowBytes.{block_of_lem}
 use Rattle.encoder.specs.declared.Encoder.{Encoder}
-use Rattle.encoder.specs.declared.Made.TheVariants as made
-use Rattle.encoder.specs.Made.{made as made_of_encoder}
+use Rattle.encoder.specs.Made.{made}
 use Rattle.encoder.specs.Entries.{padded_refusal, NewPadded}
 use Rattle.encoder.proofs.Truthful.{coded_truthful}
 use Rattle.recoder.proofs.Truthful.{payload_of, recoded_truthful}
 use Rattle.decoder.specs.declared.Decoder.{Decoder}
-use Rattle.decoder.specs.declared.Recovered.{Recovered}
 use Rattle.decoder.specs.Answers.{recovered_number, recovered_values}
 use Rattle.decoder.specs.Entries.{Recovery}
 use Rattle.demands.specs.Demand3.{Closed}
@@ -75,21 +73,19 @@ record Padded (M : ℕ) (bytes : List ℕ) (k : ℕ) (e : Encoder) (block : List
   rest : List ℕ
   is : block ≡ padded M k bytes ++ rest
 
-padded_of : (M : ℕ) (bytes buffer : List ℕ) (k : ℕ) (e : Encoder) (block : List ℕ) → NewPadded M bytes buffer k (made.Of e) block → Padded M bytes k e block
-unfolding made_of_encoder padded_refusal
-padded_of M bytes buffer k e block n = go (padded_refusal (length bytes) k (length buffer)) (number_of (padded_refusal (length bytes) k (length buffer))) refl refl n.result n.left
+padded_of : (M : ℕ) (bytes buffer : List ℕ) (k : ℕ) (e : Encoder) (block : List ℕ) → NewPadded M bytes buffer k (Ok e) block → Padded M bytes k e block
+unfolding made padded_refusal
+padded_of M bytes buffer k e block n = go (padded_refusal (length bytes) k (length buffer)) refl n.result n.left
   where
     L : ℕ
     L = piece_length (length bytes) k
 
-    go : (a : Answer) (m : ℕ) → padded_refusal (length bytes) k (length buffer) ≡ a → number_of a ≡ m
-        → made.Of e ≡ if_zero m (made.Of (record { piece_count = k; piece_byte_len = L })) (made.Refused a) → block ≡ if_zero m (padded M k bytes ++ drop (k * L) buffer) buffer
-        → Padded M bytes k e block
-    go a zero q z p l =
-        let ok : padded_refusal (length bytes) k (length buffer) ≡ Ok = q ∙ (numbers_tell a Ok).1 z in
+    go : (a : Answer) → padded_refusal (length bytes) k (length buffer) ≡ a → Ok e ≡ answered a (record { piece_count = k; piece_byte_len = L })
+        → block ≡ if_ok a (padded M k bytes ++ drop (k * L) buffer) buffer → Padded M bytes k e block
+    go (Ok z) ok p l =
         let same : e ≡ record { piece_count = k; piece_byte_len = L } = cc in
-        let (n₁, ok₁) = passes (eqb (length bytes) 0) DataLengthZero _ (omega arith) ok in
-        let (n₂, ok₂) = passes (eqb k 0) PieceCountZero _ (omega arith) ok₁ in
+        let (n₁, ok₁) = passes (eqb (length bytes) 0) (Err DataLengthZero) _ (omega arith) ok in
+        let (n₂, ok₂) = passes (eqb k 0) (Err PieceCountZero) _ (omega arith) ok₁ in
         record {
           pieces = ap (λ (x : Encoder). x.piece_count) same;
           size = ap (λ (x : Encoder). x.piece_byte_len) same;
@@ -98,7 +94,7 @@ padded_of M bytes buffer k e block n = go (padded_refusal (length bytes) k (leng
           rest = drop (k * L) buffer;
           is = l;
         }
-    go a (suc m) q z p l = let never : ◌≡◌ {A = ℕ} 0 1 = cc in absurd (omega arith)
+    go (Err x) q p l = let never : ◌≡◌ {A = ℕ} 0 1 = cc in absurd (omega arith)
 
 -- the rows of the block, one after the other, are the padded data
 padded_rows : (M : ℕ) (bytes : List ℕ) (k : ℕ) (e : Encoder) (block : List ℕ) → Padded M bytes k e block
@@ -110,9 +106,9 @@ padded_rows M bytes k e block p =
 -- ---- there and back
 
 -- a fresh decoder of the block's size that took only such pieces and is complete gives the data back
-pub end_to_end : {𝓕 : FieldLaws} {M k : ℕ} {bytes buffer block : List ℕ} {e : Encoder} → M ≢ 0 → Bytes block → NewPadded M bytes buffer k (made.Of e) block
+pub end_to_end : {𝓕 : FieldLaws} {M k : ℕ} {bytes buffer block : List ℕ} {e : Encoder} → M ≢ 0 → Bytes block → NewPadded M bytes buffer k (Ok e) block
     → {d : Decoder} {elements : List ℕ} {pieces : List (List ℕ)} → History 𝓕 k (piece_length (length bytes) k) d elements pieces → All (Sent 𝓕 e block) pieces
-    → Closed d → {out last : List ℕ} {r : Recovered} → k * piece_length (length bytes) k ≤ length out → Recovery M d elements out r last
+    → Closed d → {out last : List ℕ} {r : Result ℕ RLNCError} → k * piece_length (length bytes) k ≤ length out → Recovery M d elements out r last
     → (recovered_number r ≡ 0) × (recovered_values r ≡ length bytes ∷ []) × (last ≡ bytes ++ drop (length bytes) out)
 unfolding Agrees
 end_to_end {𝓕} {M} {k} {bytes} {buffer} {block} {e} m b n {d} {elements} {pieces} h sent c {out} {last} {r} w g =

@@ -11,8 +11,9 @@ use native.Mathlib.Omega.{arith}
 use borrow.Author.Tests.{eq-eqb, ne_eqb, le-ltb, le-leb, lt-leb}
 use lib.Dec.{eqb}
 use lib.ListN.{length, take, drop, replicate, length-replicate, drop_of_length-le}
-use Rattle.answers.specs.Number.{number_of}
-use Rattle.answers.specs.declared.Answer.TheVariants.{Ok, ReceivedAllPieces, NotAllPiecesReceivedYet, TooManyTaken}
+use Rattle.std.specs.Prelude.{Ok, Err}
+use Rattle.answers.specs.declared.RLNCError.{RLNCError}
+use Rattle.answers.specs.declared.RLNCError.TheVariants.{ReceivedAllPieces, NotAllPiecesReceivedYet, TooManyTaken}
 use Rattle.galois.specs.FieldLaws.{FieldLaws}
 use Rattle.linear.specs.All.{All, none, more, Bytes}
 use Rattle.linear.specs.Pieces.{Truthful}
@@ -25,9 +26,7 @@ use Rattle.block.specs.Padding.{marker, Carries}
 use Rattle.block.specs.Reading.{reading, answer_of, data_length}
 use Rattle.block.proofs.Reading.{reads_data}
 use Rattle.decoder.specs.declared.Decoder.{Decoder}
-use Rattle.decoder.specs.declared.Complete.TheVariants as complete
-use Rattle.decoder.specs.declared.Made.TheVariants as new
-use Rattle.decoder.specs.declared.Taken.TheVariants as piece
+use Rattle.decoder.specs.declared.Taken.TheVariants.{Useful, NotUseful}
 use Rattle.decoder.specs.Records.{k_of, f_of, rows_in, taken_by, taken_limit, bad_state}
 use Rattle.decoder.specs.Entries.{decoder_of, new_refusal, NewDecoder, take_refusal, rows_after, after, taking, Decoded, completed, block_in, recover_refusal}
 use Rattle.decoder.specs.Calls.{record_next, buffer_next}
@@ -77,11 +76,11 @@ module _ {𝓕 : FieldLaws} {k L : ℕ} {block fed : List (List ℕ)} {d : Decod
   good = rw (shown d it.numbers, le-ltb (length elements) (k_of d * f_of d) it.room)
 
   rows_closed : eqb (rows_in d) (k_of d) ≡ true → Closed d
-  rows_closed e = (closed_told (completed d)).1 (told s.history ∙ ap complete.Of e)
+  rows_closed e = (closed_told (completed d)).1 (told s.history ∙ ap Ok e)
 
-  rows_open : eqb (rows_in d) (k_of d) ≡ false → completed d ≡ complete.Of true → ⊥
+  rows_open : eqb (rows_in d) (k_of d) ≡ false → completed d ≡ Ok true → ⊥
   rows_open e c =
-      let same : complete.Of true ≡ complete.Of false = sym c ∙ told s.history ∙ ap complete.Of e in
+      let same : Ok true ≡ Ok false = sym c ∙ told s.history ∙ ap Ok e in
       let never : ◌≡◌ {A = ℕ} 0 1 = cc in
       omega arith
 
@@ -97,44 +96,44 @@ module _ {𝓕 : FieldLaws} {k L : ℕ} {block fed : List (List ℕ)} {d : Decod
 
   module _ (p : List ℕ) (size : length p ≡ k + L) where
     -- a complete decoder refuses it with 9, one that took as many as it may with 23, and any other takes it
-    complete_refuses : eqb (rows_in d) (k_of d) ≡ true → take_refusal d (length elements) (length p) ≡ ReceivedAllPieces
+    complete_refuses : eqb (rows_in d) (k_of d) ≡ true → take_refusal d (length elements) (length p) ≡ Err ReceivedAllPieces
     unfolding take_refusal
     complete_refuses e = rw (good, e)
 
     whole : length p ≡ f_of d
     whole = omega (arith, it.same_k, it.same_l)
 
-    full_refuses : eqb (rows_in d) (k_of d) ≡ false → length fed ≡ taken_limit → take_refusal d (length elements) (length p) ≡ TooManyTaken
+    full_refuses : eqb (rows_in d) (k_of d) ≡ false → length fed ≡ taken_limit → take_refusal d (length elements) (length p) ≡ Err TooManyTaken
     unfolding take_refusal
     full_refuses e n =
         let many : taken_limit ≤ taken_by d = omega (arith, it.taken, ap length (took_all e)) in
         rw (good, e, eq-eqb (length p) (f_of d) whole, le-leb taken_limit (taken_by d) many)
 
-    takes : eqb (rows_in d) (k_of d) ≡ false → length fed < taken_limit → take_refusal d (length elements) (length p) ≡ Ok
+    takes : eqb (rows_in d) (k_of d) ≡ false → length fed < taken_limit → take_refusal d (length elements) (length p) ≡ Ok tt
     unfolding take_refusal
     takes e n =
         let less : taken_by d < taken_limit = omega (arith, it.taken, ap length (took_all e)) in
         rw (good, e, eq-eqb (length p) (f_of d) whole, lt-leb taken_limit (taken_by d) less)
 
     -- refused, it changes nothing
-    unchanged : (P : Decoder → List ℕ → Type 0) (n : ℕ) → number_of (take_refusal d (length elements) (length p)) ≡ suc n → P d elements
+    unchanged : (P : Decoder → List ℕ → Type 0) (x : RLNCError) → take_refusal d (length elements) (length p) ≡ Err x → P d elements
         → P (record_next 𝓕 d elements p) (buffer_next 𝓕 d elements p)
     unfolding record_next buffer_next
-    unchanged P n e h = rw e h
+    unchanged P x e h = rw e h
 
     pub past : length fed ≡ taken_limit → Fed 𝓕 k L block fed (record_next 𝓕 d elements p) (buffer_next 𝓕 d elements p)
     past n = go (eqb (rows_in d) (k_of d)) refl
       where
         go : (u : Bool) → eqb (rows_in d) (k_of d) ≡ u → Fed 𝓕 k L block fed (record_next 𝓕 d elements p) (buffer_next 𝓕 d elements p)
-        go true e = unchanged (Fed 𝓕 k L block fed) 8 (ap number_of (complete_refuses e)) s
-        go false e = unchanged (Fed 𝓕 k L block fed) 22 (ap number_of (full_refuses e n)) s
+        go true e = unchanged (Fed 𝓕 k L block fed) ReceivedAllPieces (complete_refuses e) s
+        go false e = unchanged (Fed 𝓕 k L block fed) TooManyTaken (full_refuses e n) s
 
     module _ (b : Bytes p) (t : Truthful 𝓕 k L block p) where
       still_closed : Closed d → Fed 𝓕 k L block (p ∷ fed) d elements
       unfolding Agrees
       still_closed c = record { taken = s.taken; history = s.history; agrees = s.agrees; within = λ other a. s.within other (all_tail a); all = inl c }
 
-      grows : take_refusal d (length elements) (length p) ≡ Ok → s.taken ≡ fed
+      grows : take_refusal d (length elements) (length p) ≡ Ok tt → s.taken ≡ fed
           → Fed 𝓕 k L block (p ∷ fed) (record_next 𝓕 d elements p) (buffer_next 𝓕 d elements p)
       unfolding record_next buffer_next taking Agrees
       grows e same =
@@ -152,22 +151,22 @@ module _ {𝓕 : FieldLaws} {k L : ℕ} {block fed : List (List ℕ)} {d : Decod
           called : (u : Bool) → eqb (length (rows_after 𝓕 d elements p)) (rows_in d) ≡ u
               → History 𝓕 k L (after 𝓕 d elements p) (holding (k_of d) (f_of d) (rows_after 𝓕 d elements p) elements) (p ∷ s.taken)
           called true q =
-              let c : Decoded 𝓕 d elements p (piece.NotUseful (after 𝓕 d elements p)) (holding (k_of d) (f_of d) (rows_after 𝓕 d elements p) elements) = record { result = rw (e, q); left = rw e } in
+              let c : Decoded 𝓕 d elements p (Ok (NotUseful (after 𝓕 d elements p))) (holding (k_of d) (f_of d) (rows_after 𝓕 d elements p) elements) = record { result = rw (e, q); left = rw e } in
               not_useful s.history b c
           called false q =
-              let c : Decoded 𝓕 d elements p (piece.Useful (after 𝓕 d elements p)) (holding (k_of d) (f_of d) (rows_after 𝓕 d elements p) elements) = record { result = rw (e, q); left = rw e } in
+              let c : Decoded 𝓕 d elements p (Ok (Useful (after 𝓕 d elements p))) (holding (k_of d) (f_of d) (rows_after 𝓕 d elements p) elements) = record { result = rw (e, q); left = rw e } in
               useful s.history b c
 
       pub feed : length fed < taken_limit → Fed 𝓕 k L block (p ∷ fed) (record_next 𝓕 d elements p) (buffer_next 𝓕 d elements p)
       feed n = go (eqb (rows_in d) (k_of d)) refl
         where
           go : (u : Bool) → eqb (rows_in d) (k_of d) ≡ u → Fed 𝓕 k L block (p ∷ fed) (record_next 𝓕 d elements p) (buffer_next 𝓕 d elements p)
-          go true e = unchanged (Fed 𝓕 k L block (p ∷ fed)) 8 (ap number_of (complete_refuses e)) (still_closed (rows_closed e))
+          go true e = unchanged (Fed 𝓕 k L block (p ∷ fed)) ReceivedAllPieces (complete_refuses e) (still_closed (rows_closed e))
           go false e = grows (takes e n) (took_all e)
 
   -- ---- recovery, given the room: the data where no other block is left, and else 10
 
-  open_answer : eqb (rows_in d) (k_of d) ≡ false → (room : ℕ) → recover_refusal marker d elements room ≡ NotAllPiecesReceivedYet
+  open_answer : eqb (rows_in d) (k_of d) ≡ false → (room : ℕ) → recover_refusal marker d elements room ≡ Err NotAllPiecesReceivedYet
   unfolding recover_refusal
   open_answer e room = rw (good, e)
 
@@ -183,16 +182,16 @@ module _ {𝓕 : FieldLaws} {k L : ℕ} {block fed : List (List ℕ)} {d : Decod
         subst (λ (l : List (List ℕ)). Another 𝓕 k L l block) (took_all e) (record { other = other; is_block = o; agrees = a; differs = n })
 
     pub recovery : {bytes : List ℕ} → Carries marker (flat block) bytes → (room : ℕ) → k * L ≤ room
-        → ((recover_refusal marker d elements room ≡ Ok) × (take (data_length (reading marker (block_in d elements))) (block_in d elements) ≡ bytes) × Unique 𝓕 k L fed block)
-        ⊎ ((recover_refusal marker d elements room ≡ NotAllPiecesReceivedYet) × Another 𝓕 k L fed block)
+        → ((recover_refusal marker d elements room ≡ Ok tt) × (take (data_length (reading marker (block_in d elements))) (block_in d elements) ≡ bytes) × Unique 𝓕 k L fed block)
+        ⊎ ((recover_refusal marker d elements room ≡ Err NotAllPiecesReceivedYet) × Another 𝓕 k L fed block)
     unfolding answer_of data_length
     recovery {bytes} y room w = go (eqb (rows_in d) (k_of d)) refl
       where
         go : (u : Bool) → eqb (rows_in d) (k_of d) ≡ u
-            → ((recover_refusal marker d elements room ≡ Ok) × (take (data_length (reading marker (block_in d elements))) (block_in d elements) ≡ bytes) × Unique 𝓕 k L fed block)
-            ⊎ ((recover_refusal marker d elements room ≡ NotAllPiecesReceivedYet) × Another 𝓕 k L fed block)
+            → ((recover_refusal marker d elements room ≡ Ok tt) × (take (data_length (reading marker (block_in d elements))) (block_in d elements) ≡ bytes) × Unique 𝓕 k L fed block)
+            ⊎ ((recover_refusal marker d elements room ≡ Err NotAllPiecesReceivedYet) × Another 𝓕 k L fed block)
         go true e =
-            let c : completed d ≡ complete.Of true = told s.history ∙ ap complete.Of e in
+            let c : completed d ≡ Ok true = told s.history ∙ ap Ok e in
             let (reads, front) = (reads_data marker (flat block) bytes).0 y in
             let same : block_in d elements ≡ flat block = the_block s.history block b s.agrees c in
             inl (
@@ -209,19 +208,19 @@ record_after 𝓕 d elements [] = d
 record_after 𝓕 d elements (full ∷ later) = record_after 𝓕 (record_next 𝓕 d elements full) (buffer_next 𝓕 d elements full) later
 
 module _ (𝓕 : FieldLaws) (k L : ℕ) (block : List (List ℕ)) where
-  fresh : new_refusal L k (k * (k + L)) ≡ Ok → Fed 𝓕 k L block [] (decoder_of k L 0 0) (replicate (k * (k + L)) 0)
+  fresh : new_refusal L k (k * (k + L)) ≡ Ok tt → Fed 𝓕 k L block [] (decoder_of k L 0 0) (replicate (k * (k + L)) 0)
   unfolding Agrees
   fresh e =
       let size : length (replicate {A = ℕ} (k * (k + L)) 0) ≡ k * (k + L) = length-replicate (k * (k + L)) 0 in
-      let ok : new_refusal L k (length (replicate {A = ℕ} (k * (k + L)) 0)) ≡ Ok = ap (new_refusal L k) size ∙ e in
+      let ok : new_refusal L k (length (replicate {A = ℕ} (k * (k + L)) 0)) ≡ Ok tt = ap (new_refusal L k) size ∙ e in
       let nothing_behind : drop (k * (k + L)) (replicate {A = ℕ} (k * (k + L)) 0) ≡ [] = drop_of_length-le (replicate (k * (k + L)) 0) {i = k * (k + L)} (omega arith) in
-      let new_one : NewDecoder L k (replicate (k * (k + L)) 0) (new.Of (decoder_of k L 0 0)) (replicate (k * (k + L)) 0) =
+      let new_one : NewDecoder L k (replicate (k * (k + L)) 0) (Ok (decoder_of k L 0 0)) (replicate (k * (k + L)) 0) =
       record { result = rw ok; left = rw (ok, nothing_behind, append-nil) } in
       record { taken = []; history = made new_one; agrees = none; within = λ other a. none; all = inr refl }
 
   -- with no piece there is nothing to recover
-  pub nothing_yet : new_refusal L k (k * (k + L)) ≡ Ok → (room : ℕ)
-      → recover_refusal marker (decoder_of k L 0 0) (replicate (k * (k + L)) 0) room ≡ NotAllPiecesReceivedYet
+  pub nothing_yet : new_refusal L k (k * (k + L)) ≡ Ok tt → (room : ℕ)
+      → recover_refusal marker (decoder_of k L 0 0) (replicate (k * (k + L)) 0) room ≡ Err NotAllPiecesReceivedYet
   nothing_yet e room = let s = fresh e in open_answer s (ne_eqb 0 k (λ z. (it s).numbers.some_pieces (sym z))) room
 
   -- n more are heard
@@ -236,7 +235,7 @@ module _ (𝓕 : FieldLaws) (k L : ℕ) (block : List (List ℕ)) where
   feeds (suc n) (p ∷ ps) fed d elements s e z b t =
       feeds n ps (p ∷ fed) (record_next 𝓕 d elements p) (buffer_next 𝓕 d elements p) (feed s p (all_head z) (all_head b) (all_head t) (omega arith)) (omega arith) (all_tail z) (all_tail b) (all_tail t)
 
-  pub fed_from_new : new_refusal L k (k * (k + L)) ≡ Ok → (pieces : List (List ℕ)) → All (λ p. length p ≡ k + L) pieces → All Bytes pieces
+  pub fed_from_new : new_refusal L k (k * (k + L)) ≡ Ok tt → (pieces : List (List ℕ)) → All (λ p. length p ≡ k + L) pieces → All Bytes pieces
       → Agrees 𝓕 k L (heard pieces) block
       → Fed 𝓕 k L block (reverse (heard pieces)) (record_after 𝓕 (decoder_of k L 0 0) (replicate (k * (k + L)) 0) pieces) (buffer_from_new 𝓕 k L pieces)
   unfolding buffer_from_new

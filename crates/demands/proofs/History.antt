@@ -8,7 +8,7 @@ use native.Mathlib.Nat.{mul-le-mul_right, mul_comm, mul-sub}
 use native.Mathlib.Numerals.{add-one}
 use native.Mathlib.Omega.{arith}
 use lib.ListN.{length, length-append, length-drop, length-replicate}
-use Rattle.answers.specs.declared.Answer.TheVariants.{Ok}
+use Rattle.std.specs.Prelude.{Ok}
 use Rattle.galois.specs.FieldLaws.{FieldLaws}
 use Rattle.linear.specs.All.{All, Bytes}
 use Rattle.linear.specs.Rows.{take_piece}
@@ -18,14 +18,12 @@ use Rattle.linear.proofs.Buffer.{sizes_of, length_rows_of}
 use Rattle.linear.proofs.Flat.{rows_flat, length_flat}
 use Rattle.linear.proofs.Sizes.{take_piece_sizes}
 use Rattle.decoder.specs.declared.Decoder.{Decoder}
-use Rattle.decoder.specs.declared.Made.TheVariants as new
 use Rattle.decoder.specs.Records.{k_of, l_of, f_of, rows_in, taken_by, held_rows}
 use Rattle.decoder.specs.Entries.{NewDecoder, take_refusal, rows_after, after}
 use Rattle.demands.specs.History.{History, made, useful, not_useful, resumed, refused}
 use Rattle.decoder.proofs.Sound.{Sound, told}
 use Rattle.decoder.proofs.Accepted.{Accepted, accepted}
 use Rattle.decoder.proofs.Counters.{new_sound, after_sound}
-use Rattle.stored.specs.declared.Loaded.TheVariants as loaded
 use Rattle.stored.proofs.Alike.{loaded_alike}
 use Rattle.demands.proofs.Outcomes.{made_of, Took, took as was_taken, unchanged}
 
@@ -39,7 +37,7 @@ pub record Kept (𝓕 : FieldLaws) (k L : ℕ) (d : Decoder) (elements : List �
 
 -- ---- a new decoder
 
-kept_new : (𝓕 : FieldLaws) (k L : ℕ) (buffer elements : List ℕ) (d : Decoder) → NewDecoder L k buffer (new.Of d) elements → Kept 𝓕 k L d elements []
+kept_new : (𝓕 : FieldLaws) (k L : ℕ) (buffer elements : List ℕ) (d : Decoder) → NewDecoder L k buffer (Ok d) elements → Kept 𝓕 k L d elements []
 unfolding held_rows rows_of
 kept_new 𝓕 k L buffer elements d n =
     let (is, left) = made_of L k buffer elements d n in
@@ -56,7 +54,7 @@ kept_new 𝓕 k L buffer elements d n =
 
 -- ---- a piece taken
 
-module _ (𝓕 : FieldLaws) (d : Decoder) (elements full : List ℕ) (ok : take_refusal d (length elements) (length full) ≡ Ok) where
+module _ (𝓕 : FieldLaws) (d : Decoder) (elements full : List ℕ) (ok : take_refusal d (length elements) (length full) ≡ Ok tt) where
   abbrev o : Accepted d (length elements) (length full)
   o = accepted d (length elements) (length full) ok
 
@@ -122,7 +120,7 @@ kept {𝓕} {k} {L} (useful {d} {d'} {elements} {elements'} {full} {pieces} h b 
 kept {𝓕} {k} {L} (not_useful {d} {d'} {elements} {elements'} {full} {pieces} h b c) =
     kept_took 𝓕 k L d d' elements elements' full pieces (kept h) b (was_taken 𝓕 d elements full _ elements' c d' (inr refl))
 kept {𝓕} {k} {L} (resumed {d} {d'} {elements} {out} {out'} {pieces} {n} h s behind matrix {matrix'} room l) =
-    let (e, a) = loaded_alike s behind matrix matrix' (loaded.Of d') room l in
+    let (e, a) = loaded_alike s behind matrix matrix' (Ok d') room l in
     let same : d ≡ d' = cc in
     let it : Kept 𝓕 k L d elements pieces = kept h in
     subst (λ (x : Decoder). Kept 𝓕 k L x matrix' pieces) same
@@ -134,5 +132,5 @@ kept {𝓕} {k} {L} (resumed {d} {d'} {elements} {out} {out'} {pieces} {n} h s b
       taken = it.taken;
       held = subst (Taken (take_piece 𝓕 k) k L pieces) a.rows it.held;
     })
-kept {𝓕} {k} {L} (refused {d} {elements} {elements'} {full} {pieces} {a} h c) =
-    rw (unchanged 𝓕 d elements full _ elements' c a refl) (kept h)
+kept {𝓕} {k} {L} (refused {d} {elements} {elements'} {full} {pieces} {e} h c) =
+    rw (unchanged 𝓕 d elements full _ elements' c e refl) (kept h)

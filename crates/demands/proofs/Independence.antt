@@ -2,20 +2,17 @@
 -- Assumes nothing.
 use mathlib.Core.Path.{◌≡◌, refl, sym, ap, ap₂, ◌∙◌}
 use mathlib.Core.List.{List, map}
-use Prim.Native.Nat.{ℕ, zero, suc, ◌<◌}
+use Prim.Native.Nat.{ℕ, ◌<◌}
 use lib.ListN.{length, take}
-use Rattle.answers.specs.Number.{number_of}
-use Rattle.answers.specs.declared.Answer.{Answer}
-use Rattle.answers.specs.declared.Answer.TheVariants.{Ok}
-use Rattle.answers.proofs.Numbers.{numbers_tell}
+use Rattle.std.specs.Prelude.{Result, Ok, Err}
+use Rattle.answers.specs.Number.{Answer}
+use Rattle.answers.specs.declared.RLNCError.{RLNCError}
 use Rattle.galois.specs.FieldLaws.{FieldLaws}
-use Rattle.linear.specs.Choice.{if_zero}
 use Rattle.linear.proofs.Buffer.{length_rows_of}
 use Rattle.linear.proofs.Independence.{count_of}
-use Rattle.block.specs.Refusal.{if_ok}
+use Rattle.block.specs.Refusal.{answered}
 use Rattle.decoder.specs.declared.Decoder.{Decoder}
 use Rattle.decoder.specs.declared.Taken.{Taken}
-use Rattle.decoder.specs.declared.Taken.TheVariants as piece
 use Rattle.decoder.specs.Records.{k_of, f_of, rows_in, held_rows}
 use Rattle.decoder.specs.Entries.{take_refusal, rows_after, after, taking, Decoded}
 use Rattle.decoder.proofs.Accepted.{Accepted, accepted}
@@ -34,14 +31,13 @@ module _ (𝓕 : FieldLaws) (d : Decoder) (elements elements' full full' : List 
   same_taking h = rw (same_count h)
 
   -- the same answer, with the same record in it
-  pub independent : length elements ≡ length elements' → length full ≡ length full' → {r r' : Taken} {last last' : List ℕ}
+  pub independent : length elements ≡ length elements' → length full ≡ length full' → {r r' : Result Taken RLNCError} {last last' : List ℕ}
       → Decoded 𝓕 d elements full r last → Decoded 𝓕 d elements' full' r' last' → r ≡ r'
   independent l m {r} {r'} h h' =
       let same : take_refusal d (length elements) (length full) ≡ take_refusal d (length elements') (length full') = ap₂ (take_refusal d) l m in
-      h.result ∙ go (take_refusal d (length elements) (length full)) (number_of (take_refusal d (length elements) (length full))) refl (λ z. accepted d (length elements) (length full) ((numbers_tell _ Ok).1 z))
-      ∙ sym (h'.result ∙ ap (λ (a : Answer). if_ok a (taking 𝓕 d elements' full') (piece.Refused a)) (sym same))
+      h.result ∙ go (take_refusal d (length elements) (length full)) (accepted d (length elements) (length full))
+      ∙ sym (h'.result ∙ ap (λ (a : Answer). answered a (taking 𝓕 d elements' full')) (sym same))
     where
-      go : (a : Answer) (n : ℕ) → number_of a ≡ n → (number_of a ≡ 0 → Accepted d (length elements) (length full))
-          → if_zero n (taking 𝓕 d elements full) (piece.Refused a) ≡ if_zero n (taking 𝓕 d elements' full') (piece.Refused a)
-      go a zero e o = same_taking (o e).missing
-      go a (suc n) e o = refl
+      go : (a : Answer) → (a ≡ Ok tt → Accepted d (length elements) (length full)) → answered a (taking 𝓕 d elements full) ≡ answered a (taking 𝓕 d elements' full')
+      go (Ok z) o = ap Ok (same_taking (o refl).missing)
+      go (Err e) o = refl

@@ -10,7 +10,8 @@ use native.Mathlib.Omega.{arith}
 use lib.Dec.{eqb}
 use lib.ListN.{length, replicate, length-append, length-drop, length-replicate}
 use lib.Seq.{take_all}
-use Rattle.answers.specs.declared.Answer.TheVariants.{Ok, NotAllPiecesReceivedYet}
+use Rattle.std.specs.Prelude.{Some, None, Ok, Err}
+use Rattle.answers.specs.declared.RLNCError.TheVariants.{NotAllPiecesReceivedYet}
 use Rattle.galois.specs.FieldLaws.{FieldLaws}
 use Rattle.linear.specs.All.{more, Bytes}
 use Rattle.linear.specs.Choice.{pick}
@@ -31,7 +32,6 @@ use Rattle.decoder.specs.Records.{rows_in, taken_by, taken_limit, held_rows}
 use Rattle.decoder.specs.Entries.{decoder_of, recover_refusal}
 use Rattle.decoder.specs.Calls.{number_next, record_next, buffer_next}
 use Rattle.stored.specs.Alike.{Alike}
-use Rattle.listing.specs.declared.join.Held.TheVariants as held
 use Rattle.listing.specs.Lines.{header_line, piece_line}
 use Rattle.listing.specs.Joining.{nothing, decoder_for, matrix_for, joined, line_of, answer_to, decoder_after, elements_after, joined_after, line_for}
 use Rattle.listing.specs.Listing.{end_answer, data_of, end_lines, matrix_length, block_room, lines_from, listing_of}
@@ -78,7 +78,7 @@ module _ (𝓕 : FieldLaws) (g : Geometry) where
       ∙ ap (λ (l : List ℕ). (l, (last 0).1)) (sym (append_assoc line later (last (m + (repeat + eights (lines 𝓕 D E ps)))).0))
 
   -- the first piece makes the decoder; of its matrix the bytes behind k·F are never read
-  alike : Alike (new_of g) (matrix_for g held.Nothing (replicate matrix_length 0)) (clear_of g)
+  alike : Alike (new_of g) (matrix_for g None (replicate matrix_length 0)) (clear_of g)
   unfolding matrix_for held_rows rows_of
   alike = record {
     here = simp (length-append, length-replicate, length-drop) (omega (arith, matrix_fits g));
@@ -86,11 +86,11 @@ module _ (𝓕 : FieldLaws) (g : Geometry) where
     rows = refl;
   }
 
-  begins : (ps : List (List ℕ)) → end_answer (held.Of (new_of g)) (clear_of g) block_room ≡ NotAllPiecesReceivedYet
+  begins : (ps : List (List ℕ)) → end_answer (Some (new_of g)) (clear_of g) block_room ≡ Err NotAllPiecesReceivedYet
       → told 𝓕 nothing (replicate matrix_length 0) (of_pieces g ps) ≡ told 𝓕 (going_on (new_of g) 0 0) (clear_of g) (of_pieces g ps)
   unfolding lines_from close_from of_pieces end_lines ending_by found_by end_answer line_for joined_after elements_after decoder_after answer_to decoder_for matrix_for joined line_of
   begins [] e = rw e
-  begins (p ∷ ps) e = told_alike 𝓕 (of_pieces g (p ∷ ps)) (new_of g) (matrix_for g held.Nothing (replicate matrix_length 0)) (clear_of g) alike 0 0
+  begins (p ∷ ps) e = told_alike 𝓕 (of_pieces g (p ∷ ps)) (new_of g) (matrix_for g None (replicate matrix_length 0)) (clear_of g) alike 0 0
 
 -- ---- the block of the data
 
@@ -141,8 +141,8 @@ module _ (𝓕 : FieldLaws) (g : Geometry) (bytes : List ℕ) (pieces : List (Li
   unfolding Unique lines_from close_from end_lines ending_by found_by end_answer data_of
   purpose = go (recovery fed is_block carries block_room (block_fits g))
     where
-      go : ((recover_refusal marker D E block_room ≡ Ok) × (data_of (held.Of D) E ≡ bytes) × Unique 𝓕 (pieces_of g) (length_of g) (reverse (heard pieces)) (block_of g bytes))
-          ⊎ ((recover_refusal marker D E block_room ≡ NotAllPiecesReceivedYet) × Another 𝓕 (pieces_of g) (length_of g) (reverse (heard pieces)) (block_of g bytes))
+      go : ((recover_refusal marker D E block_room ≡ Ok tt) × (data_of (Some D) E ≡ bytes) × Unique 𝓕 (pieces_of g) (length_of g) (reverse (heard pieces)) (block_of g bytes))
+          ⊎ ((recover_refusal marker D E block_room ≡ Err NotAllPiecesReceivedYet) × Another 𝓕 (pieces_of g) (length_of g) (reverse (heard pieces)) (block_of g bytes))
           → Purpose 𝓕 g bytes pieces (heard pieces)
       go (inl (ok, is, only)) =
           let u : Unique 𝓕 (pieces_of g) (length_of g) (heard pieces) (block_of g bytes) = unique_back 𝓕 (pieces_of g) (length_of g) (heard pieces) (block_of g bytes) only in

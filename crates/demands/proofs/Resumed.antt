@@ -7,29 +7,26 @@ use mathlib.Core.List.{List, [], ◌++◌}
 use Prim.Native.Nat.{ℕ, ◌+◌, ◌*◌, ◌≤◌}
 use lib.Dec.{eqb}
 use lib.ListN.{length, take}
-use Rattle.answers.specs.Number.{number_of}
-use Rattle.answers.specs.declared.Answer.{Answer}
-use Rattle.answers.specs.declared.Answer.TheVariants.{BadState, NotAllPiecesReceivedYet}
+use Rattle.std.specs.Prelude.{Some, Result, Ok, Err}
+use Rattle.answers.specs.Number.{Answer, number_of}
+use Rattle.answers.specs.declared.RLNCError.{RLNCError}
+use Rattle.answers.specs.declared.RLNCError.TheVariants.{BadState, NotAllPiecesReceivedYet}
 use Rattle.galois.specs.FieldLaws.{FieldLaws}
 use Rattle.linear.specs.Choice.{pick}
-use Rattle.block.specs.Refusal.{if_ok}
+use Rattle.block.specs.Refusal.{if_ok, answered}
 use Rattle.block.specs.Padding.{marker}
 use Rattle.block.specs.Reading.{reading, data_length}
 use Rattle.stream.specs.Streams.{Stream, piece, end, stop}
 use Rattle.decoder.specs.declared.Decoder.{Decoder}
 use Rattle.decoder.specs.declared.Taken.{Taken}
-use Rattle.decoder.specs.declared.Taken.TheVariants as taken
 use Rattle.decoder.specs.Records.{k_of, f_of, rows_in, bad_state}
 use Rattle.decoder.specs.Answers.{taken_number, kept}
 use Rattle.decoder.specs.Entries.{take_refusal, taking, Decoded, block_in, recover_refusal}
 use Rattle.decoder.specs.Calls.{number_next, record_next, buffer_next}
 use Rattle.decoder.proofs.Calls.{number_is, record_is}
-use Rattle.stored.specs.declared.Saved.TheVariants as saved
-use Rattle.stored.specs.declared.Loaded.{Loaded}
 use Rattle.stored.specs.Entries.{Saving, Loading}
 use Rattle.stored.specs.Alike.{Alike}
 use Rattle.stored.proofs.Alike.{not_yet, same_state, same_block, same_recovery, takes_alike, loaded_alike}
-use Rattle.listing.specs.declared.join.Held.TheVariants as held
 use Rattle.listing.specs.declared.join.Joining.{Joining}
 use Rattle.listing.specs.Lines.{end_line, data_line}
 use Rattle.listing.specs.Joining.{decoder_for, matrix_for, joined, line_of, answer_to, decoder_after, elements_after, joined_after, line_for}
@@ -51,8 +48,8 @@ module _ (d : Decoder) (a b : List ℕ) (h : Alike d a b) where
   -- ---- the end: whatever is made of the data, or of a refusal
 
   ends : {A : Type 0} (made : List ℕ → A) (refused : Answer → A)
-      → if_ok (end_answer (held.Of d) a block_room) (made (data_of (held.Of d) a)) (refused (end_answer (held.Of d) a block_room))
-      ≡ if_ok (end_answer (held.Of d) b block_room) (made (data_of (held.Of d) b)) (refused (end_answer (held.Of d) b block_room))
+      → if_ok (end_answer (Some d) a block_room) (made (data_of (Some d) a)) (refused (end_answer (Some d) a block_room))
+      ≡ if_ok (end_answer (Some d) b block_room) (made (data_of (Some d) b)) (refused (end_answer (Some d) b block_room))
   unfolding end_answer data_of recover_refusal
   ends {A} made refused = go (eqb (rows_in d) (k_of d)) refl
     where
@@ -62,9 +59,9 @@ module _ (d : Decoder) (a b : List ℕ) (h : Alike d a b) where
       by : List ℕ → Answer → A
       by x r = if_ok r (made (bytes_of (block_in d x))) (refused r)
 
-      early : (x : List ℕ) → eqb (rows_in d) (k_of d) ≡ false → by x (recover_refusal marker d x block_room) ≡ refused (pick (bad_state d (length x)) BadState NotAllPiecesReceivedYet)
+      early : (x : List ℕ) → eqb (rows_in d) (k_of d) ≡ false → by x (recover_refusal marker d x block_room) ≡ refused (pick (bad_state d (length x)) (Err BadState) (Err NotAllPiecesReceivedYet))
       early x e =
-          let answer : recover_refusal marker d x block_room ≡ pick (bad_state d (length x)) BadState NotAllPiecesReceivedYet = rw e in
+          let answer : recover_refusal marker d x block_room ≡ pick (bad_state d (length x)) (Err BadState) (Err NotAllPiecesReceivedYet) = rw e in
           ap (by x) answer ∙ not_yet (bad_state d (length x)) _ _
 
       go : (t : Bool) → eqb (rows_in d) (k_of d) ≡ t → by a (recover_refusal marker d a block_room) ≡ by b (recover_refusal marker d b block_room)
@@ -72,13 +69,13 @@ module _ (d : Decoder) (a b : List ℕ) (h : Alike d a b) where
           let answer = same_recovery d a b h marker block_room e in
           let block = same_block d a b h e in
           λ i. if_ok (answer i) (made (bytes_of (block i))) (refused (answer i))
-      go false e = early a e ∙ ap (λ (t : Bool). refused (pick t BadState NotAllPiecesReceivedYet)) (same_state d a b h) ∙ sym (early b e)
+      go false e = early a e ∙ ap (λ (t : Bool). refused (pick t (Err BadState) (Err NotAllPiecesReceivedYet))) (same_state d a b h) ∙ sym (early b e)
 
   -- ---- a piece
 
   module _ (𝓕 : FieldLaws) (full : List ℕ) where
-    answer : List ℕ → Taken
-    answer x = if_ok (take_refusal d (length x) (length full)) (taking 𝓕 d x full) (taken.Refused (take_refusal d (length x) (length full)))
+    answer : List ℕ → Result Taken RLNCError
+    answer x = answered (take_refusal d (length x) (length full)) (taking 𝓕 d x full)
 
     called : (x : List ℕ) → Decoded 𝓕 d x full (answer x) (buffer_next 𝓕 d x full)
     unfolding answer buffer_next
@@ -114,11 +111,11 @@ told_alike 𝓕 end d a b h n m =
       ends d a b h (λ l. end_line 0 (length l) m ++ data_line l) (λ r. end_line (number_of r) 0 m) i,
       record { ending = ends d a b h (λ l. Rebuilt (length l)) (λ r. Open) i; found = ends d a b h (λ l. l) (λ r. []) i },
     )
-told_alike 𝓕 (stop answer at) d a b h n m = refl
+told_alike 𝓕 (stop e at) d a b h n m = refl
 
 -- what `save` wrote may be followed by anything, and the buffer that `load` is lent, if it is long enough, may hold anything
-pub resumes : (𝓕 : FieldLaws) {d : Decoder} {elements out out' : List ℕ} {n : ℕ} → Saving d elements out (saved.Bytes n) out'
-    → (behind matrix matrix' : List ℕ) (r : Loaded) → k_of d * f_of d ≤ length matrix → Loading (take n out' ++ behind) matrix r matrix' → Resumed 𝓕 d elements r matrix'
+pub resumes : (𝓕 : FieldLaws) {d : Decoder} {elements out out' : List ℕ} {n : ℕ} → Saving d elements out (Ok n) out'
+    → (behind matrix matrix' : List ℕ) (r : Result Decoder RLNCError) → k_of d * f_of d ≤ length matrix → Loading (take n out' ++ behind) matrix r matrix' → Resumed 𝓕 d elements r matrix'
 resumes 𝓕 {d} {elements} s behind matrix matrix' r room l =
     let (e, h) = loaded_alike s behind matrix matrix' r room l in
     record {

@@ -1,30 +1,35 @@
 -- Demand 3 is about something: the histories are made call by call, and antt computes where they stand.
 -- Assumes nothing.
-use mathlib.Core.Path.{◌≡◌, refl, sym, ◌∙◌}
+use mathlib.Core.Path.{◌≡◌, refl, ap}
 use mathlib.Core.Bool.{Bool, true, false}
 use mathlib.Core.List.{List, [], ◌∷◌}
 use Prim.Native.Nat.{ℕ, zero, suc}
-use native.Mathlib.Nat.{suc-ne-zero, not-suc-le-zero, le_of_suc-le-suc}
+use native.Mathlib.Nat.{not-suc-le-zero, le_of_suc-le-suc}
 use native.Mathlib.Omega.{arith}
 use lib.Dec.{T, eqb, ltb, ltb→lt}
 use lib.ListN.{length, get_or, take, replicate}
-use Rattle.answers.specs.Number.{number_of}
+use Rattle.std.specs.Prelude.{Result, Ok, Err}
+use Rattle.answers.specs.Number.{Answer, number_of}
+use Rattle.answers.specs.declared.RLNCError.{RLNCError}
+use Rattle.answers.proofs.Numbers.{numbers_tell}
 use Rattle.galois.specs.Gf.{xtime, times, mul, pow, inv}
 use Rattle.galois.specs.FieldLaws.{FieldLaws}
 use Rattle.galois.proofs.Table.{both, both_left, both_right}
 use Rattle.gf256.proofs.Known.{fips}
 use Rattle.linear.specs.All.{none, more, Bytes}
-use Rattle.linear.specs.Choice.{pick, if_zero}
+use Rattle.linear.specs.Choice.{pick}
 use Rattle.linear.specs.Rows.{take_piece, reduce, drop_empty, backward, backward_at, clear_above, forward, forward_at, clear_pivoted, pivot_from, clear_below, clear_by, scale_row, add_multiple, swap_rows, first_nonzero, entry, all_zero}
 use Rattle.linear.specs.Pieces.{column, dot, Truthful}
 use Rattle.linear.specs.Blocks.{Block, Agrees}
 use Rattle.linear.specs.Buffer.{rows_of, flat}
+use Rattle.block.specs.Refusal.{if_ok, answered}
 use Rattle.block.specs.Sizes.{over_limit, sized}
 use Rattle.block.specs.Padding.{Breaks, marker, Carries}
 use Rattle.block.specs.Reading.{last_marker, read_at, reading, answer_of}
 use Rattle.block.proofs.Reading.{reads_data, reads_broken}
 use Rattle.decoder.specs.declared.Decoder.{Decoder}
-use Rattle.decoder.specs.declared.Taken.TheVariants as piece
+use Rattle.decoder.specs.declared.Taken.{Taken}
+use Rattle.decoder.specs.declared.Taken.TheVariants.{Useful, NotUseful}
 use Rattle.decoder.specs.Records.{rows_in, sound, bad_state, held_rows}
 use Rattle.decoder.specs.Answers.{taken_number, complete_values}
 use Rattle.decoder.specs.Entries.{decoder_of, new_refusal, take_refusal, rows_after, after, taking, completed, block_in, recover_refusal}
@@ -36,18 +41,20 @@ use Rattle.demands.specs.Witness.{four, five, the_block, zeros, zero_block, Afte
 module _ {𝓕 : FieldLaws} {k L : ℕ} {d : Decoder} {elements : List ℕ} {pieces : List (List ℕ)} (h : History 𝓕 k L d elements pieces) (full : List ℕ) (b : Bytes full) where
   goes_on : number_next 𝓕 d elements full ≡ 0 → History 𝓕 k L (record_next 𝓕 d elements full) (buffer_next 𝓕 d elements full) (full ∷ pieces)
   unfolding number_next record_next buffer_next taken_number taking
-  goes_on e = useful h b (record { result = go (number_of (take_refusal d (length elements) (length full))) refl e; left = refl })
+  goes_on e = useful h b (record { result = go (take_refusal d (length elements) (length full)) e; left = refl })
     where
-      which : (t : Bool) → taken_number (pick t (piece.NotUseful (after 𝓕 d elements full)) (piece.Useful (after 𝓕 d elements full))) ≡ 0
-          → piece.Useful (after 𝓕 d elements full) ≡ pick t (piece.NotUseful (after 𝓕 d elements full)) (piece.Useful (after 𝓕 d elements full))
+      which : (t : Bool) → taken_number (Ok (pick t (NotUseful (after 𝓕 d elements full)) (Useful (after 𝓕 d elements full)))) ≡ 0
+          → Useful (after 𝓕 d elements full) ≡ pick t (NotUseful (after 𝓕 d elements full)) (Useful (after 𝓕 d elements full))
       which true z = absurd (omega arith)
       which false z = refl
 
-      go : (n : ℕ) → number_of (take_refusal d (length elements) (length full)) ≡ n
-          → if_zero n (taken_number (taking 𝓕 d elements full)) (number_of (take_refusal d (length elements) (length full))) ≡ 0
-          → piece.Useful (if_zero n (after 𝓕 d elements full) d) ≡ if_zero n (taking 𝓕 d elements full) (piece.Refused (take_refusal d (length elements) (length full)))
-      go zero q z = which (eqb (length (rows_after 𝓕 d elements full)) (rows_in d)) z
-      go (suc n) q z = absurd (suc-ne-zero n (sym q ∙ z))
+      go : (a : Answer) → if_ok a (taken_number (Ok (taking 𝓕 d elements full))) (number_of a) ≡ 0
+          → ◌≡◌ {A = Result Taken RLNCError} (Ok (Useful (if_ok a (after 𝓕 d elements full) d))) (answered a (taking 𝓕 d elements full))
+      go (Ok u) z = ap Ok (which (eqb (length (rows_after 𝓕 d elements full)) (rows_in d)) z)
+      go (Err x) z =
+          let e : ◌≡◌ {A = Answer} (Err x) (Ok tt) = (numbers_tell (Err x) (Ok tt)).1 z in
+          let never : ◌≡◌ {A = ℕ} 0 1 = cc in
+          absurd (omega arith)
 
 -- a list of bytes, tested
 abbrev below : List ℕ → Bool

@@ -6,6 +6,7 @@ use mathlib.Core.List.{[], ◌∷◌}
 use Prim.Native.Nat.{ℕ, zero, suc}
 use lib.ListN.{take}
 use borrow.Author.Tests.{eq-eqb, ne_eqb}
+use Rattle.std.specs.Prelude.{Result, Ok, Err}
 use Rattle.answers.specs.Number.{number_of}
 use Rattle.galois.specs.Gf.{xtime, times, mul, pow, inv}
 use Rattle.galois.specs.Quotient.{values_of, inverse_of}
@@ -13,8 +14,8 @@ use Rattle.gf256.proofs.Lists.{powers, logs}
 use Rattle.linear.specs.Rows.{take_piece, reduce, drop_empty, backward, backward_at, clear_above, forward, forward_at, clear_pivoted, pivot_from, clear_below, clear_by, scale_row, add_multiple, swap_rows, first_nonzero, entry, all_zero}
 use Rattle.linear.specs.Pieces.{combine, recode}
 use Rattle.linear.specs.Buffer.{rows_of, flat}
-use Rattle.block.specs.declared.Padding.{Padding}
-use Rattle.block.specs.declared.Padding.TheVariants.{Data, MarkerAbsent, MarkerFirst, TailNotZero}
+use Rattle.block.specs.declared.BrokenPadding.{BrokenPadding}
+use Rattle.block.specs.declared.BrokenPadding.TheVariants.{MarkerAbsent, MarkerFirst, TailNotZero}
 use Rattle.block.specs.Sizes.{over_limit, sized}
 use Rattle.block.specs.Padding.{piece_length, filled, padded}
 use Rattle.block.specs.Reading.{last_marker, read_at, reading, answer_of, data_length}
@@ -27,23 +28,23 @@ use Rattle.demands.specs.Worked.{Worked}
 
 -- P13: a zero is no marker, nor is a
 module _ (M a : ℕ) (m : M ≢ 0) where
-  first : reading M (M ∷ 0 ∷ []) ≡ MarkerFirst
+  first : reading M (M ∷ 0 ∷ []) ≡ Err MarkerFirst
   unfolding reading read_at last_marker
   first = rw (eq-eqb M M refl, ne_eqb 0 M (λ e. m (sym e)))
 
-  one : reading M (a ∷ M ∷ 0 ∷ []) ≡ Data 1
+  one : reading M (a ∷ M ∷ 0 ∷ []) ≡ Ok 1
   unfolding reading read_at last_marker all_zero
   one = rw (eq-eqb M M refl, ne_eqb 0 M (λ e. m (sym e)))
 
-  two : reading M (a ∷ M ∷ M ∷ 0 ∷ []) ≡ Data 2
+  two : reading M (a ∷ M ∷ M ∷ 0 ∷ []) ≡ Ok 2
   unfolding reading read_at last_marker all_zero
   two = rw (eq-eqb M M refl, ne_eqb 0 M (λ e. m (sym e)))
 
-absent : (M a : ℕ) → a ≢ M → reading M (a ∷ a ∷ []) ≡ MarkerAbsent
+absent : (M a : ℕ) → a ≢ M → reading M (a ∷ a ∷ []) ≡ Err MarkerAbsent
 unfolding reading read_at last_marker
 absent M a n = rw (ne_eqb a M n)
 
-tail : (M a : ℕ) → a ≢ 0 → a ≢ M → reading M (a ∷ M ∷ a ∷ []) ≡ TailNotZero
+tail : (M a : ℕ) → a ≢ 0 → a ≢ M → reading M (a ∷ M ∷ a ∷ []) ≡ Err TailNotZero
 unfolding reading read_at last_marker all_zero
 tail M zero z n = absurd (z refl)
 tail M (suc a) z n = rw (eq-eqb M M refl, ne_eqb (suc a) M n)
@@ -73,9 +74,9 @@ worked =
       p10 = refl;
       p11 = refl;
       p12 = refl;
-      p13_first = λ M m. ap (λ (x : Padding). number_of (answer_of x)) (first M 0 m);
-      p13_one = λ M a m. (ap (λ (x : Padding). number_of (answer_of x)) (one M a m), ap (λ (x : Padding). take (data_length x) (a ∷ M ∷ 0 ∷ [])) (one M a m));
-      p13_two = λ M a m. (ap (λ (x : Padding). number_of (answer_of x)) (two M a m), ap (λ (x : Padding). take (data_length x) (a ∷ M ∷ M ∷ 0 ∷ [])) (two M a m));
-      p13_absent = λ M a n. ap (λ (x : Padding). number_of (answer_of x)) (absent M a n);
-      p13_tail = λ M a z n. ap (λ (x : Padding). number_of (answer_of x)) (tail M a z n);
+      p13_first = λ M m. ap (λ (x : Result ℕ BrokenPadding). number_of (answer_of x)) (first M 0 m);
+      p13_one = λ M a m. (ap (λ (x : Result ℕ BrokenPadding). number_of (answer_of x)) (one M a m), ap (λ (x : Result ℕ BrokenPadding). take (data_length x) (a ∷ M ∷ 0 ∷ [])) (one M a m));
+      p13_two = λ M a m. (ap (λ (x : Result ℕ BrokenPadding). number_of (answer_of x)) (two M a m), ap (λ (x : Result ℕ BrokenPadding). take (data_length x) (a ∷ M ∷ M ∷ 0 ∷ [])) (two M a m));
+      p13_absent = λ M a n. ap (λ (x : Result ℕ BrokenPadding). number_of (answer_of x)) (absent M a n);
+      p13_tail = λ M a z n. ap (λ (x : Result ℕ BrokenPadding). number_of (answer_of x)) (tail M a z n);
     }

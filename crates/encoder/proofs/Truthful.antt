@@ -8,7 +8,8 @@ use native.Mathlib.Omega.{arith}
 use lib.Dec.{eqb}
 use lib.ListN.{length}
 use borrow.Author.Tests.{eqb-true, not-false}
-use Rattle.answers.specs.declared.Answer.TheVariants.{Ok, CodingVectorLengthMismatch, InvalidOutputBuffer, BadState}
+use Rattle.std.specs.Prelude.{Ok, Err}
+use Rattle.answers.specs.declared.RLNCError.TheVariants.{CodingVectorLengthMismatch, InvalidOutputBuffer, BadState}
 use Rattle.galois.specs.FieldLaws.{FieldLaws}
 use Rattle.linear.specs.All.{Bytes}
 use Rattle.linear.specs.Buffer.{rows_of}
@@ -21,14 +22,14 @@ use Rattle.encoder.specs.declared.Encoder.{Encoder}
 use Rattle.encoder.specs.Entries.{bad_state, code_whole_refusal, CodedWhole}
 use Rattle.encoder.proofs.State.{held}
 
-module _ (𝓕 : FieldLaws) (e : Encoder) (block vector out last : List ℕ) (c : CodedWhole 𝓕 e block vector out Ok last) (bb : Bytes block) where
-  -- the tests that Ok has passed
+module _ (𝓕 : FieldLaws) (e : Encoder) (block vector out last : List ℕ) (c : CodedWhole 𝓕 e block vector out (Ok tt) last) (bb : Bytes block) where
+  -- the tests that an Ok has passed
   passed : (bad_state e (length block) ≡ false) × (length vector ≡ e.piece_count)
   unfolding code_whole_refusal
   passed =
-      let p = passes (bad_state e (length block)) BadState _ (omega arith) (sym c.result) in
-      let q = passes (not (eqb (length out) (e.piece_count + e.piece_byte_len))) InvalidOutputBuffer _ (omega arith) p.1 in
-      let r = passes (not (eqb (length vector) e.piece_count)) CodingVectorLengthMismatch _ (omega arith) q.1 in
+      let p = passes (bad_state e (length block)) (Err BadState) _ (omega arith) (sym c.result) in
+      let q = passes (not (eqb (length out) (e.piece_count + e.piece_byte_len))) (Err InvalidOutputBuffer) _ (omega arith) p.1 in
+      let r = passes (not (eqb (length vector) e.piece_count)) (Err CodingVectorLengthMismatch) _ (omega arith) q.1 in
       (p.0, eqb-true _ _ (not-false _ r.0))
 
   coded : encode 𝓕 e.piece_byte_len (rows_of e.piece_byte_len e.piece_count block) vector ≡ last

@@ -2,28 +2,24 @@
 // vectors.
 #![tactic(auto)]
 
-ghost use Rattle.std.specs.Prelude.{◌≡◌, not, ◌+◌, ◌<◌, length};
+ghost use Rattle.std.specs.Prelude.{◌≡◌, ◌+◌, ◌<◌, length, Ok, Err};
+ghost use Rattle.answers.specs.declared.RLNCError.TheVariants.{BadState};
+ghost use Rattle.linear.specs.Choice.{pick};
 ghost use Rattle.field.specs.FieldOf.{field_of};
 ghost use Rattle.block.specs.Padding.{marker, filled};
 ghost use Rattle.block.specs.Sizes.{sized};
 ghost use Rattle.block.specs.Counts.{counted};
 ghost use Rattle.encoder.specs.Entries.{NewPadded, NewUnpadded, bad_state, Coded, CodedWhole};
 
-use answers::Answer;
-use block::{BOUNDARY_MARKER, Count};
+use answers::{Answer, RLNCError};
+use block::BOUNDARY_MARKER;
 use field::Field;
 
+// Callers, C among them, may put any numbers in: each method looks at them first.
 #[derive(Clone, Copy)]
 pub struct Encoder {
     pub piece_count: usize,
     pub piece_byte_len: usize,
-}
-
-// A new encoder, or why there is none.
-#[derive(Clone, Copy)]
-pub enum Made {
-    Of(Encoder),
-    Refused(Answer),
 }
 
 // The data, the marker, then zeros to the end of the block.
@@ -32,116 +28,114 @@ fn pad(data: &[u8], block: &mut [u8])
     ensures { block.new ≡ filled marker (length block.old) «data».now }
 {
     let n = data.len();
-    let behind = n + 1;
     block[..n].copy_from_slice(data);
     block[n] = BOUNDARY_MARKER;
-    rows::clear(&mut block[behind..]);
+    block[n + 1..].fill(0);
 }
 
 impl Encoder {
     // Pads the data into the lent block.
     #[tactic(auto, using(block::proofs::Filling::round_up), unfolding(crate::specs::Entries::padded_refusal, crate::specs::Made::made))]
-    pub fn new(data: &[u8], block: &mut [u8], piece_count: usize) -> Made
+    pub fn new(data: &[u8], block: &mut [u8], piece_count: usize) -> Result<Encoder, RLNCError>
         ensures { NewPadded marker «data».now block.old piece_count result block.new }
     {
         let n = data.len();
         if n == 0 {
-            return Made::Refused(Answer::DataLengthZero);
+            return Err(RLNCError::DataLengthZero);
         }
         if piece_count == 0 {
-            return Made::Refused(Answer::PieceCountZero);
+            return Err(RLNCError::PieceCountZero);
         }
         // (n + 1) / piece_count rounded up
         let piece_byte_len = n / piece_count + 1;
         if block::over_limit(piece_count, piece_byte_len) {
-            return Made::Refused(Answer::SizeOverLimit);
+            return Err(RLNCError::SizeOverLimit);
         }
         let size = piece_count * piece_byte_len;
         if block.len() < size {
-            return Made::Refused(Answer::NoRoom);
+            return Err(RLNCError::NoRoom);
         }
         pad(data, &mut block[..size]);
-        Made::Of(Encoder {
+        Ok(Encoder {
             piece_count,
             piece_byte_len,
         })
     }
 
     // The data is the block already.
-    #[tactic(auto, using(crate::proofs::Outcomes::unpadded_refused, crate::proofs::Outcomes::unpadded_made), unfolding(crate::specs::Entries::unpadded_refusal))]
-    pub fn without_padding(data: &[u8], piece_count: usize) -> Made
+    #[tactic(auto, unfolding(crate::specs::Entries::unpadded_refusal, crate::specs::Made::made))]
+    pub fn without_padding(data: &[u8], piece_count: usize) -> Result<Encoder, RLNCError>
         ensures { NewUnpadded (length «data».now) piece_count result }
     {
         let n = data.len();
         if n == 0 {
-            return Made::Refused(Answer::DataLengthZero);
+            return Err(RLNCError::DataLengthZero);
         }
         if piece_count == 0 {
-            return Made::Refused(Answer::PieceCountZero);
+            return Err(RLNCError::PieceCountZero);
         }
         if n % piece_count != 0 {
-            return Made::Refused(Answer::DataLengthMismatch);
+            return Err(RLNCError::DataLengthMismatch);
         }
         let piece_byte_len = n / piece_count;
         if block::over_limit(piece_count, piece_byte_len) {
-            return Made::Refused(Answer::SizeOverLimit);
+            return Err(RLNCError::SizeOverLimit);
         }
-        Made::Of(Encoder {
+        Ok(Encoder {
             piece_count,
             piece_byte_len,
         })
     }
 
-    // The record's numbers are good.
-    fn sound(self) -> bool
-        ensures { result ≡ sized self.piece_count self.piece_byte_len }
+    // Refused where the record's numbers are bad.
+    fn checked(self) -> Answer
+        ensures { result ≡ pick (sized self.piece_count self.piece_byte_len) (Ok tt) (Err BadState) }
     {
-        block::sizes_fit(self.piece_count, self.piece_byte_len)
+        if block::sizes_fit(self.piece_count, self.piece_byte_len) {
+            Ok(())
+        } else {
+            Err(RLNCError::BadState)
+        }
     }
 
     #[tactic(auto, unfolding(block::specs::Counts::counted))]
-    pub fn get_piece_count(self) -> Count
+    pub fn get_piece_count(self) -> Result<usize, RLNCError>
         ensures { result ≡ counted (sized self.piece_count self.piece_byte_len) self.piece_count }
     {
-        if self.sound() {
-            return Count::Of(self.piece_count);
-        }
-        Count::Refused(Answer::BadState)
+        self.checked()?;
+        Ok(self.piece_count)
     }
 
     #[tactic(auto, unfolding(block::specs::Counts::counted))]
-    pub fn get_piece_byte_len(self) -> Count
+    pub fn get_piece_byte_len(self) -> Result<usize, RLNCError>
         ensures { result ≡ counted (sized self.piece_count self.piece_byte_len) self.piece_byte_len }
     {
-        if self.sound() {
-            return Count::Of(self.piece_byte_len);
-        }
-        Count::Refused(Answer::BadState)
+        self.checked()?;
+        Ok(self.piece_byte_len)
     }
 
     #[tactic(auto, using(block::proofs::Bounds::within), unfolding(block::specs::Counts::counted))]
-    pub fn get_full_coded_piece_byte_len(self) -> Count
+    pub fn get_full_coded_piece_byte_len(self) -> Result<usize, RLNCError>
         ensures { result ≡ counted (sized self.piece_count self.piece_byte_len) (self.piece_count + self.piece_byte_len) }
     {
-        if self.sound() {
-            return Count::Of(self.piece_count + self.piece_byte_len);
-        }
-        Count::Refused(Answer::BadState)
+        self.checked()?;
+        Ok(self.piece_count + self.piece_byte_len)
     }
 
-    // The record's numbers are good, and the lent block is as long as they say.
-    #[tactic(auto, using(block::proofs::Bounds::not_less, block::proofs::Bounds::within, block::proofs::Bounds::block_within), unfolding(crate::specs::Entries::bad_state))]
-    fn holds(self, block: &[u8]) -> bool
-        ensures { result ≡ not (bad_state self (length block.now)) }
+    // Refused where the record's numbers are bad, or the lent block is shorter than they say.
+    #[tactic(auto, using(block::proofs::Bounds::within, block::proofs::Bounds::block_within), unfolding(crate::specs::Entries::bad_state))]
+    fn admit(self, block: &[u8]) -> Answer
+        ensures { result ≡ pick (bad_state self (length block.now)) (Err BadState) (Ok tt) }
     {
-        if self.sound() {
-            return self.piece_count * self.piece_byte_len <= block.len();
+        self.checked()?;
+        if block.len() < self.piece_count * self.piece_byte_len {
+            return Err(RLNCError::BadState);
         }
-        false
+        Ok(())
     }
 
     // The payload of the piece that the vector codes.
-    #[tactic(auto, using(crate::proofs::Outcomes::code_refused), unfolding(crate::specs::Entries::code_refusal))]
+    #[tactic(auto, unfolding(crate::specs::Entries::code_refusal))]
     pub fn code_with_coding_vector(
         self,
         f: Field,
@@ -151,20 +145,18 @@ impl Encoder {
     ) -> Answer
         ensures { Coded (field_of f) self block.now coding_vector.now coded_data.old result coded_data.new }
     {
-        if !self.holds(block) {
-            return Answer::BadState;
-        }
+        self.admit(block)?;
         if coding_vector.len() != self.piece_count {
-            return Answer::CodingVectorLengthMismatch;
+            return Err(RLNCError::CodingVectorLengthMismatch);
         }
         if coded_data.len() != self.piece_byte_len {
-            return Answer::InvalidOutputBuffer;
+            return Err(RLNCError::InvalidOutputBuffer);
         }
         rows::combine(f, block, coding_vector, coded_data)
     }
 
-    // The whole piece: the vector, then the payload that it codes.
-    #[tactic(auto, using(crate::proofs::Outcomes::code_whole_refused), unfolding(crate::specs::Entries::code_whole_refusal))]
+    // The whole piece: the vector, then the payload that it codes. The lengths are refused in another order than above.
+    #[tactic(auto, unfolding(crate::specs::Entries::code_whole_refusal))]
     pub fn code_with_buf(
         self,
         f: Field,
@@ -175,14 +167,12 @@ impl Encoder {
         ensures { CodedWhole (field_of f) self block.now coding_vector.now full_coded_piece.old result full_coded_piece.new }
     {
         let k = self.piece_count;
-        if !self.holds(block) {
-            return Answer::BadState;
-        }
+        self.admit(block)?;
         if full_coded_piece.len() != k + self.piece_byte_len {
-            return Answer::InvalidOutputBuffer;
+            return Err(RLNCError::InvalidOutputBuffer);
         }
         if coding_vector.len() != k {
-            return Answer::CodingVectorLengthMismatch;
+            return Err(RLNCError::CodingVectorLengthMismatch);
         }
         full_coded_piece[..k].copy_from_slice(coding_vector);
         rows::combine(f, block, coding_vector, &mut full_coded_piece[k..])

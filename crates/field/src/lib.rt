@@ -7,7 +7,6 @@ ghost use Rattle.galois.specs.Quotient.{inverse_of, quotient_of};
 ghost use Rattle.galois.specs.Multiples.{multiples_of};
 ghost use Rattle.field.specs.FieldOf.{field_of};
 
-use galois::Quotient;
 use gf256::Gf256;
 
 #[derive(Clone, Copy)]
@@ -24,7 +23,7 @@ impl Field {
         }
     }
 
-    pub fn inv(self, a: u8) -> Quotient
+    pub fn inv(self, a: u8) -> Option<u8>
         ensures { result ≡ inverse_of (field_of self).inv a }
     {
         match self {
@@ -32,17 +31,16 @@ impl Field {
         }
     }
 
-    #[tactic(auto, using(galois::proofs::Divided::quotient_none))]
-    pub fn div(self, a: u8, b: u8) -> Quotient
+    pub fn div(self, a: u8, b: u8) -> Option<u8>
         ensures { result ≡ quotient_of (field_of self).mul (field_of self).inv a b }
     {
-        let Quotient::Byte(i) = self.inv(b) else {
-            return Quotient::ByZero;
-        };
-        Quotient::Byte(self.mul(a, i))
+        match self {
+            Field::Fips197 => Gf256::new(a) / Gf256::new(b),
+        }
     }
 
-    fn times_x(self, a: u8) -> u8
+    // a times x.
+    pub fn times_x(self, a: u8) -> u8
         ensures { result ≡ (field_of self).mul 2 a }
     {
         match self {
@@ -51,17 +49,14 @@ impl Field {
     }
 
     // q times 1, x, .., x^7: a product with q is the sum of those that the other factor's bits choose.
-    #[tactic(auto, using(crate::proofs::Doubled::eight))]
+    #[tactic(auto, using(crate::proofs::Doubled::ends))]
     pub fn multiples(self, q: u8) -> [u8; 8]
         ensures { result ≡ multiples_of (field_of self) q }
     {
-        let m1 = self.times_x(q);
-        let m2 = self.times_x(m1);
-        let m3 = self.times_x(m2);
-        let m4 = self.times_x(m3);
-        let m5 = self.times_x(m4);
-        let m6 = self.times_x(m5);
-        let m7 = self.times_x(m6);
-        [q, m1, m2, m3, m4, m5, m6, m7]
+        let mut m = [q; 8];
+        for i in 1..8 {
+            m[i] = self.times_x(m[i - 1]);
+        }
+        m
     }
 }

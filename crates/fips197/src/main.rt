@@ -2,7 +2,8 @@
 // document's numbers.
 #![tactic(auto)]
 
-use galois::Quotient;
+ghost use Rattle.std.specs.Prelude.{◌<◌};
+
 use gf256::Gf256;
 use std::io;
 
@@ -11,30 +12,17 @@ fn product(rt: &impl Print, a: u8, b: u8) -> io::Result<()> {
     println!(rt; "{{{a:02x}}} . {{{b:02x}}} = {{{c:02x}}}")
 }
 
-// The bits turned left by one place.
-fn turned(b: u8) -> u8 {
-    b % 128 * 2 + b / 128
-}
-
 // Section 5.1.1: the inverse, or 0 for 0, then the affine transformation.
 fn s_box(a: u8) -> u8 {
-    let b = match Gf256::new(a).inv() {
-        Quotient::Byte(v) => v,
-        Quotient::ByZero => 0,
-    };
-    let b1 = turned(b);
-    let b2 = turned(b1);
-    let b3 = turned(b2);
-    let b4 = turned(b3);
-    b ^ b1 ^ b2 ^ b3 ^ b4 ^ 0x63
+    let b = Gf256::new(a).inv().unwrap_or(0);
+    b ^ b.rotate_left(1) ^ b.rotate_left(2) ^ b.rotate_left(3) ^ b.rotate_left(4) ^ 0x63
 }
 
 // A row of the S-box: the bytes whose high digit is given.
-fn row(rt: &impl Print, high: u8) -> io::Result<()> {
-    if 16 <= high {
-        return Ok(());
-    }
-    for low in 0..16u8 {
+fn row(rt: &impl Print, high: u8) -> io::Result<()>
+    requires { high < 16 }
+{
+    for low in 0..16 {
         let b = s_box(high * 16 + low);
         print!(rt; "{b:02x}")?;
     }
@@ -42,13 +30,17 @@ fn row(rt: &impl Print, high: u8) -> io::Result<()> {
 }
 
 fn main(rt: HostRuntime) -> io::Result<()> {
-    product(&rt, 0x57, 0x83)?;
-    product(&rt, 0x57, 0x13)?;
-    product(&rt, 0x57, 0x02)?;
-    product(&rt, 0x57, 0x04)?;
-    product(&rt, 0x57, 0x08)?;
-    product(&rt, 0x57, 0x10)?;
-    for high in 0..16u8 {
+    for (a, b) in [
+        (0x57, 0x83),
+        (0x57, 0x13),
+        (0x57, 0x02),
+        (0x57, 0x04),
+        (0x57, 0x08),
+        (0x57, 0x10),
+    ] {
+        product(&rt, a, b)?;
+    }
+    for high in 0..16 {
         row(&rt, high)?;
     }
     Ok(())

@@ -2,14 +2,13 @@
 -- Assumes nothing.
 use mathlib.Core.Path.{◌≡◌, sym, ap, ap₂, ◌∙◌}
 use mathlib.Core.List.{List, [], ◌∷◌}
-use Prim.Native.Nat.{ℕ, zero, suc, ◌+◌, ◌*◌, ◌/◌, ◌%◌, ◌^◌, ◌<◌}
+use Prim.Native.Nat.{ℕ, zero, suc, ◌*◌, ◌/◌, ◌%◌, ◌^◌, ◌<◌}
 use native.Mathlib.Nat.{mod-one, mod-eq_of_lt, pow-suc}
 use native.Mathlib.Nat as nat
-use native.Mathlib.Omega.{arith}
 use Rattle.galois.specs.Gf.{◌⊕◌}
 use Rattle.galois.specs.FieldLaws.{FieldLaws}
 use Rattle.galois.specs.Multiples.{multiples_of}
-use Rattle.galois.proofs.Sum.{⊕_comm, ⊕_shl, ⊕_above, low_bits, digit, digit_through}
+use Rattle.galois.proofs.Sum.{⊕_shl, low_bits, digit, digit_through}
 use Rattle.galois.proofs.Field.{mul_zero, mul_left_comm}
 
 -- the sum of those multiples whose bit is set in b, the lowest bit first
@@ -43,19 +42,9 @@ module _ (F : FieldLaws) (q : ℕ) where
   unfolding multiples_of doubling
   by_bits b h = by_doubling 8 0 b ∙ ap (F.mul q) (nat.mul-one (b % 256) ∙ mod-eq_of_lt h)
 
--- ---- multiplication by x
+-- ---- one multiple after the other
 
 module _ (F : FieldLaws) where
-  -- of a byte: each bit moves up, and x · x^7 stands for the one that falls out
-  pub by_x : (a : ℕ) → a < 256 → F.mul 2 a ≡ a % 128 * 2 ⊕ a / 128 * F.mul 2 128
-  by_x a h =
-      let bit : a / 128 < 2 = omega arith in
-      let low : a % 128 < 128 = omega arith in
-      let parts : a ≡ a / 128 * 128 + a % 128 = omega arith in
-      ap (F.mul 2) (parts ∙ sym (⊕_above (a / 128) 7 (a % 128) low)) ∙ F.mul_⊕ 2 (a / 128 * 128) (a % 128)
-      ∙ ap₂ (λ (x y : ℕ). x ⊕ y) (digit_through (F.mul 2) (mul_zero F 2) (a / 128) 128 bit) (F.mul_x (a % 128) low)
-      ∙ ⊕_comm (a / 128 * F.mul 2 128) (a % 128 * 2)
-
   -- the next of the multiples of q
   pub next_multiple : (q w : ℕ) → w < 128 → F.mul q (w * 2) ≡ F.mul 2 (F.mul q w)
   next_multiple q w h = ap (F.mul q) (sym (F.mul_x w h)) ∙ mul_left_comm F q 2 w

@@ -2,13 +2,13 @@
 // base 3 and one of the powers of 3.
 #![tactic(auto)]
 
-ghost use Rattle.std.specs.Prelude.{◌≡◌, ◌<◌, eqb};
+ghost use Rattle.std.specs.Prelude.{◌≡◌, ◌<◌};
 ghost use Rattle.galois.specs.Gf.{◌⊕◌, mul, inv as inverse};
 ghost use Rattle.galois.specs.Tables.{exp_entry, LogEntry};
 ghost use Rattle.galois.specs.Quotient.{inverse_of, quotient_of};
 ghost use Rattle.gf256.specs.Fips197.{polynomial, generator};
 
-use galois::Quotient;
+use std::ops::{Add, Div, Mul, Neg, Sub};
 use tables::{GF256_EXP_TABLE, GF256_LOG_TABLE};
 
 mod tables;
@@ -31,7 +31,7 @@ fn log_at(a: u8) -> usize
 }
 
 // An element of the field.
-#[derive(Clone, Copy)]
+#[derive(Clone, Copy, PartialEq, Eq, Debug)]
 pub struct Gf256 {
     pub val: u8,
 }
@@ -85,68 +85,81 @@ impl Gf256 {
     }
 
     // a times x, with no table.
+    #[tactic(auto, using(crate::proofs::Products::times_x_low, crate::proofs::Products::times_x_high))]
     pub fn times_x(a: u8) -> u8
         ensures { result ≡ mul polynomial 2 a }
     {
         if a < 128 { a * 2 } else { (a - 128) * 2 ^ 0x1b }
     }
 
-    pub fn inv(self) -> Quotient
+    // Zero has none.
+    #[tactic(auto, using(galois::proofs::Divided::inverse_none, crate::proofs::Products::inverse_one))]
+    pub fn inv(self) -> Option<u8>
         ensures { result ≡ inverse_of (inverse polynomial) self.val }
     {
         let a = self.val;
         if a == 0 {
-            return Quotient::ByZero;
+            return None;
         }
         // With no table, as in mul_const.
         if a == 1 {
-            return Quotient::Byte(1);
+            return Some(1);
         }
-        Quotient::Byte(exp_at(255 - log_at(a)))
+        Some(exp_at(255 - log_at(a)))
     }
+}
 
-    pub fn add(self, rhs: Gf256) -> Self
-        ensures { result.val ≡ self.val ⊕ rhs.val }
-    {
-        Gf256 {
-            val: self.val ^ rhs.val,
-        }
+impl Add for Gf256 {
+    type Output = Gf256;
+
+    ghost add_gives = { λ a b r. r.val ≡ a.val ⊕ b.val };
+
+    fn add(self, rhs: Gf256) -> Gf256 {
+        Gf256::new(self.val ^ rhs.val)
     }
+}
 
-    // Each element is its own negative.
-    pub fn neg(self) -> Self
-        ensures { result.val ≡ self.val }
-    {
+// Each element is its own negative.
+impl Neg for Gf256 {
+    type Output = Gf256;
+
+    ghost neg_gives = { λ a r. r.val ≡ a.val };
+
+    fn neg(self) -> Gf256 {
         self
     }
+}
 
-    // A difference is a sum.
-    pub fn sub(self, rhs: Gf256) -> Self
-        ensures { result.val ≡ self.val ⊕ rhs.val }
-    {
-        self.add(rhs)
+// A difference is a sum.
+impl Sub for Gf256 {
+    type Output = Gf256;
+
+    ghost sub_gives = { λ a b r. r.val ≡ a.val ⊕ b.val };
+
+    fn sub(self, rhs: Gf256) -> Gf256 {
+        self + rhs
     }
+}
 
-    pub fn mul(self, rhs: Gf256) -> Self
-        ensures { result.val ≡ mul polynomial self.val rhs.val }
-    {
-        Gf256 {
-            val: Gf256::mul_const(self.val, rhs.val),
-        }
+impl Mul for Gf256 {
+    type Output = Gf256;
+
+    ghost mul_gives = { λ a b r. r.val ≡ mul polynomial a.val b.val };
+
+    fn mul(self, rhs: Gf256) -> Gf256 {
+        Gf256::new(Gf256::mul_const(self.val, rhs.val))
     }
+}
 
-    pub fn div(self, rhs: Gf256) -> Quotient
-        ensures { result ≡ quotient_of (mul polynomial) (inverse polynomial) self.val rhs.val }
-    {
-        let Quotient::Byte(i) = rhs.inv() else {
-            return Quotient::ByZero;
-        };
-        Quotient::Byte(Gf256::mul_const(self.val, i))
-    }
+// Zero divides nothing.
+impl Div for Gf256 {
+    type Output = Option<u8>;
 
-    pub fn eq(self, other: Gf256) -> bool
-        ensures { result ≡ eqb self.val other.val }
-    {
-        self.val == other.val
+    ghost div_gives = { λ a b r. r ≡ quotient_of (mul polynomial) (inverse polynomial) a.val b.val };
+
+    #[tactic(auto, using(galois::proofs::Divided::quotient_none))]
+    fn div(self, rhs: Gf256) -> Option<u8> {
+        let i = rhs.inv()?;
+        Some(Gf256::mul_const(self.val, i))
     }
 }

@@ -6,7 +6,6 @@ use Prim.Native.Nat.{ℕ, zero, suc, ◌+◌, ◌≤◌, ◌<◌}
 use native.Mathlib.Nat.{not-suc-le-zero}
 use native.Mathlib.Omega.{arith}
 use lib.ListN.{length, get_or, take, drop, replicate}
-use Rattle.answers.specs.Number.{number_of}
 use Rattle.galois.specs.FieldLaws.{FieldLaws}
 use Rattle.stream.specs.Streams.{largest, Stream, piece, end, stop, stream_of}
 use Rattle.reader.specs.declared.Place.{Place}
@@ -92,7 +91,7 @@ module _ (𝓕 : FieldLaws) where
         let s : State = state m.joining elements in
         let (w, e) = positive (wanted m.reader.place) some in
         let same : kept closes s came bytes ≡ S = sym (p.keeps ∙ same_kept s came bytes) in
-        turned closes most w m.reader s left e next.reader came then p.brings (ap number_of (same_declined s came) ∙ p.passes)
+        turned closes most w m.reader s left e next.reader came then p.brings (same_declined s came ∙ p.passes)
         ∙ (λ i. (silent s came bytes i ++ back closes (same i) then next.reader.at) ++ pumped_from closes most next.reader (same i) (drop (wanted m.reader.place) left))
 
     -- where the machine wants nothing, this turn was the last

@@ -2,18 +2,17 @@
 -- Assumes nothing.
 use mathlib.Core.Path.{◌≡◌, refl, sym, ap, ◌∙◌, subst}
 use mathlib.Core.List.{List, [], ◌++◌, append_assoc}
-use Prim.Native.Nat.{ℕ, zero, suc, ◌≤◌}
+use Prim.Native.Nat.{ℕ, ◌≤◌}
 use native.Mathlib.Omega.{arith}
 use lib.ListN.{length, take, drop, length-append, length-drop, take-append-drop}
 use lib.Seq.{length-take-le, drop-append-le}
-use Rattle.answers.specs.Number.{number_of}
-use Rattle.answers.specs.declared.Answer.{Answer}
-use Rattle.linear.specs.Choice.{if_zero}
+use Rattle.std.specs.Prelude.{Result, Ok, Err, IsOk, is_ok}
+use Rattle.answers.specs.Number.{Answer, code_of}
+use Rattle.answers.specs.declared.RLNCError.{RLNCError}
+use Rattle.block.specs.Refusal.{if_ok}
 use Rattle.reader.specs.declared.Then.{Then}
 use Rattle.reader.specs.declared.Then.TheVariants as then·
 use Rattle.reader.specs.Pump.{back}
-use Rattle.listing.specs.declared.Put.{Put}
-use Rattle.listing.specs.declared.Put.TheVariants.{Bytes, Refused}
 use Rattle.listing.specs.declared.join.Joining.{Joining}
 use Rattle.listing.specs.declared.join.End.{End}
 use Rattle.listing.specs.declared.join.End.TheVariants as end
@@ -22,7 +21,7 @@ use Rattle.listing.specs.Puts.{Lined}
 use Rattle.listing.specs.Listing.{end_answer, data_of, end_lines, block_room}
 use Rattle.listing.specs.Steps.{Finished}
 use Rattle.listing.proofs.Short.{stop_short}
-use Rattle.listing.proofs.Counting.{put_whole}
+use Rattle.listing.proofs.Counting.{put_ok}
 use Rattle.listing.proofs.Ending.{ends}
 use Rattle.listing.proofs.OneResult.{one_finished}
 use Rattle.joiner.specs.declared.Ending.{Ending}
@@ -34,15 +33,15 @@ use Rattle.joiner.proofs.Fronts.{lined_front}
 
 -- ---- the line of a stop
 
-module _ (at : ℕ) (a : Answer) {out last : List ℕ} {r : Put} (l : Lined (stop_line (number_of a) at) out r last) (h : end_room ≤ length out) where
-  fits : length (stop_line (number_of a) at) ≤ length out
-  fits = omega (arith, stop_short (number_of a) at)
+module _ (at : ℕ) (e : RLNCError) {out last : List ℕ} {r : Result ℕ RLNCError} (l : Lined (stop_line (code_of e) at) out r last) (h : end_room ≤ length out) where
+  fits : length (stop_line (code_of e) at) ≤ length out
+  fits = omega (arith, stop_short (code_of e) at)
 
-  pub stops : (n : ℕ) → r ≡ Bytes n → Front (stop_line (number_of a) at) out n last
-  stops n e = lined_front l fits n e
+  pub stops : (n : ℕ) → r ≡ Ok n → Front (stop_line (code_of e) at) out n last
+  stops n q = lined_front l fits n q
 
-  pub stops_always : (b : Answer) → r ≡ Refused b → ⊥
-  stops_always b e = put_whole l fits b e
+  pub stops_always : IsOk r
+  stops_always = put_ok l fits
 
 -- ---- the lines of the end
 
@@ -55,41 +54,38 @@ put_over bytes buffer n h e =
     ∙ ap (λ (l : List ℕ). bytes ++ l)
     (sym (drop-append-le (length bytes) (take n buffer) (drop n buffer) few) ∙ ap (drop (length bytes)) (take-append-drop n buffer))
 
-module _ (j : Joining) (elements area : List ℕ) {out part last : List ℕ} {r : End} (room : block_room ≤ length area) (h : end_room ≤ length out)
+module _ (j : Joining) (elements area : List ℕ) {out part last : List ℕ} {r : Result End RLNCError} (room : block_room ≤ length area) (h : end_room ≤ length out)
     (x : Finished j elements (take block_room area) out r part last) where
   same : length (take block_room area) ≡ block_room
   same = length-take-le block_room area room
 
-  answer : ℕ
-  answer = number_of (end_answer j.held elements block_room)
+  answer : Answer
+  answer = end_answer j.held elements block_room
+
+  abbrev bytes : List ℕ
+  bytes = data_of j.held elements
 
   -- how recovery's answer decides
-  ended : ℕ → End
-  ended n = if_zero n (end.Data (length (data_of j.held elements)) (length (end_lines j elements block_room))) (end.Alone (length (end_lines j elements block_room)))
+  ended : Answer → End
+  ended a = if_ok a (end.Data (length bytes) (length (end_lines j elements block_room))) (end.Alone (length (end_lines j elements block_room)))
 
-  ending : ℕ → Ending
-  ending n = if_zero n (Rebuilt (length (data_of j.held elements))) Open
+  ending : Answer → Ending
+  ending a = if_ok a (Rebuilt (length bytes)) Open
 
-  outcome_is : (r ≡ ended answer) × (part ≡ if_zero answer (over (data_of j.held elements) (take block_room area)) (take block_room area))
-      × (last ≡ over (end_lines j elements block_room) out)
+  outcome_is : (r ≡ Ok (ended answer)) × (part ≡ if_ok answer (over bytes (take block_room area)) (take block_room area)) × (last ≡ over (end_lines j elements block_room) out)
   unfolding answer ended
   outcome_is =
-      subst (λ (n : ℕ). (r ≡ if_zero (number_of (end_answer j.held elements n)) (end.Data (length (data_of j.held elements)) (length (end_lines j elements n))) (end.Alone (length (end_lines j elements n))))
-      × (part ≡ if_zero (number_of (end_answer j.held elements n)) (over (data_of j.held elements) (take block_room area)) (take block_room area)) × (last ≡ over (end_lines j elements n) out)) same
+      subst (λ (n : ℕ). (r ≡ Ok (if_ok (end_answer j.held elements n) (end.Data (length bytes) (length (end_lines j elements n))) (end.Alone (length (end_lines j elements n)))))
+      × (part ≡ if_ok (end_answer j.held elements n) (over bytes (take block_room area)) (take block_room area)) × (last ≡ over (end_lines j elements n) out)) same
       (one_finished x (ends j elements (take block_room area) out (omega (arith, same, h))))
 
-  kept_block : (n : ℕ) → length part ≡ length (take block_room area) → part ≡ if_zero n (over (data_of j.held elements) (take block_room area)) (take block_room area)
-      → part ++ drop block_room area ≡ over (if_zero n (data_of j.held elements) []) area
-  kept_block zero e p = ap (λ (l : List ℕ). l ++ drop block_room area) p ∙ put_over (data_of j.held elements) area block_room room (sym (ap length p) ∙ e ∙ same)
-  kept_block (suc n) e p = ap (λ (l : List ℕ). l ++ drop block_room area) p ∙ take-append-drop block_room area
+  kept_block : (a : Answer) → length part ≡ length (take block_room area) → part ≡ if_ok a (over bytes (take block_room area)) (take block_room area)
+      → part ++ drop block_room area ≡ over (if_ok a bytes []) area
+  kept_block (Ok z) e p = ap (λ (l : List ℕ). l ++ drop block_room area) p ∙ put_over bytes area block_room room (sym (ap length p) ∙ e ∙ same)
+  kept_block (Err b) e p = ap (λ (l : List ℕ). l ++ drop block_room area) p ∙ take-append-drop block_room area
 
-  pub finish_always : (b : Answer) → r ≡ end.Refused b → ⊥
-  unfolding ended
-  finish_always b e = go answer (sym e ∙ outcome_is.0)
-    where
-      go : (n : ℕ) → end.Refused b ≡ ended n → ⊥
-      go zero e = let z : ◌≡◌ {A = ℕ} 0 1 = cc in omega arith
-      go (suc n) e = let z : ◌≡◌ {A = ℕ} 0 1 = cc in omega arith
+  pub finish_always : IsOk r
+  finish_always = ap is_ok outcome_is.0
 
   finished : (c : Closing) → c.ending ≡ ending answer → c.size ≡ length (end_lines j elements block_room) → length part ≡ length (take block_room area)
       → Closed (state j elements) then·.End 0 area out c (part ++ drop block_room area) last
@@ -98,26 +94,26 @@ module _ (j : Joining) (elements area : List ℕ) {out part last : List ℕ} {r 
       record {
         ends = p;
         says = λ 𝓕. record { counts = q; puts = outcome_is.2 };
-        block = kept_block (number_of (end_answer j.held elements block_room)) e outcome_is.1;
+        block = kept_block (end_answer j.held elements block_room) e outcome_is.1;
       }
 
-  pub finish_data : (n size : ℕ) → length part ≡ length (take block_room area) → r ≡ end.Data n size
+  pub finish_data : (n size : ℕ) → length part ≡ length (take block_room area) → r ≡ Ok (end.Data n size)
       → Closed (state j elements) then·.End 0 area out (record { ending = Rebuilt n; size = size }) (part ++ drop block_room area) last
   unfolding ended ending
   finish_data n size e p = let u = go answer (sym p ∙ outcome_is.0) in finished (record { ending = Rebuilt n; size = size }) u.0 u.1 e
     where
-      go : (m : ℕ) → end.Data n size ≡ ended m → (Rebuilt n ≡ ending m) × (size ≡ length (end_lines j elements block_room))
-      go zero e = let s : n ≡ length (data_of j.held elements) = cc in (ap Rebuilt s, cc)
-      go (suc m) e = let z : ◌≡◌ {A = ℕ} 0 1 = cc in absurd (omega arith)
+      go : (a : Answer) → ◌≡◌ {A = Result End RLNCError} (Ok (end.Data n size)) (Ok (ended a)) → (Rebuilt n ≡ ending a) × (size ≡ length (end_lines j elements block_room))
+      go (Ok z) e = let s : n ≡ length bytes = cc in (ap Rebuilt s, cc)
+      go (Err b) e = let z : ◌≡◌ {A = ℕ} 0 1 = cc in absurd (omega arith)
 
-  pub finish_alone : (size : ℕ) → length part ≡ length (take block_room area) → r ≡ end.Alone size
+  pub finish_alone : (size : ℕ) → length part ≡ length (take block_room area) → r ≡ Ok (end.Alone size)
       → Closed (state j elements) then·.End 0 area out (record { ending = Open; size = size }) (part ++ drop block_room area) last
   unfolding ended ending
   finish_alone size e p = let u = go answer (sym p ∙ outcome_is.0) in finished (record { ending = Open; size = size }) u.0 u.1 e
     where
-      go : (m : ℕ) → end.Alone size ≡ ended m → (Open ≡ ending m) × (size ≡ length (end_lines j elements block_room))
-      go zero e = let z : ◌≡◌ {A = ℕ} 0 1 = cc in absurd (omega arith)
-      go (suc m) e = (refl, cc)
+      go : (a : Answer) → ◌≡◌ {A = Result End RLNCError} (Ok (end.Alone size)) (Ok (ended a)) → (Open ≡ ending a) × (size ≡ length (end_lines j elements block_room))
+      go (Ok z) e = let z : ◌≡◌ {A = ℕ} 0 1 = cc in absurd (omega arith)
+      go (Err b) e = (refl, cc)
 
 -- ---- what the record is
 
@@ -134,9 +130,9 @@ module _ (s : State) (at : ℕ) (area : List ℕ) {then : Then} {out : List ℕ}
   closes_end {r} {area'} {last} e c =
       subst (λ (t : Then). Closed s t at area out r area' last) (sym e) (record { ends = c.ends; says = c.says; block = c.block })
 
-  pub closes_stop : (a : Answer) {n : ℕ} {last : List ℕ} → then ≡ then·.Stop a → Front (stop_line (number_of a) at) out n last
+  pub closes_stop : (b : RLNCError) {n : ℕ} {last : List ℕ} → then ≡ then·.Stop b → Front (stop_line (code_of b) at) out n last
       → Closed s then at area out (record { ending = Stopped; size = n }) area last
   unfolding ending_by found_by back
-  closes_stop a {n} {last} e f =
+  closes_stop b {n} {last} e f =
       subst (λ (t : Then). Closed s t at area out (record { ending = Stopped; size = n }) area last) (sym e)
       (record { ends = refl; says = λ 𝓕. f; block = refl })

@@ -7,14 +7,14 @@ use native.Mathlib.Omega.{arith}
 use borrow.Rule.Slice.PartMut.{put_mid}
 use lib.ListN.{length, take, drop, length-append, drop_of_length-le}
 use lib.Seq.{take_all, take-append_seam, drop-append_seam, drop-drop}
-use Rattle.listing.specs.declared.Put.{Put}
-use Rattle.listing.specs.declared.Put.TheVariants.{Bytes}
+use Rattle.std.specs.Prelude.{Result, Ok}
+use Rattle.answers.specs.declared.RLNCError.{RLNCError}
 use Rattle.listing.specs.Puts.{Lined}
 use Rattle.listing.proofs.Counting.{put_text, put_size}
 use Rattle.joiner.specs.Machine.{over}
 use Rattle.joiner.specs.Parts.{Front}
 
-pub lined_front : {first out mid : List ℕ} {r : Put} → Lined first out r mid → length first ≤ length out → (n : ℕ) → r ≡ Bytes n → Front first out n mid
+pub lined_front : {first out mid : List ℕ} {r : Result ℕ RLNCError} → Lined first out r mid → length first ≤ length out → (n : ℕ) → r ≡ Ok n → Front first out n mid
 lined_front l h n e = record { counts = put_size l h n e; puts = put_text l h }
 
 module _ {first out mid : List ℕ} {n : ℕ} (f : Front first out n mid) where

@@ -9,7 +9,7 @@ use native.Mathlib.Nat.{not-suc-le-zero}
 use native.Mathlib.Omega.{arith}
 use lib.Dec.{eqb}
 use lib.ListN.{length, take, drop, replicate, length-replicate, length-append, length-drop}
-use Rattle.answers.specs.Number.{number_of}
+use Rattle.std.specs.Prelude.{Ok}
 use Rattle.galois.specs.FieldLaws.{FieldLaws}
 use Rattle.linear.specs.Choice.{pick}
 use Rattle.stream.specs.declared.Geometry.{Geometry}
@@ -17,8 +17,7 @@ use Rattle.stream.specs.Geometries.{body_of}
 use Rattle.stream.specs.Streams.{largest, Stream, piece, end, stop, stream_of}
 use Rattle.reader.specs.declared.Reader.{Reader}
 use Rattle.reader.specs.declared.Came.{Came}
-use Rattle.reader.specs.declared.Progress.TheVariants.{Of}
-use Rattle.reader.specs.Reading.{wanted}
+use Rattle.reader.specs.Reading.{wanted, brought_by}
 use Rattle.reader.specs.Pump.{says_from, front, kept, declines, back, pumped_from, Reads}
 use Rattle.reader.specs.Pump as reads·
 use Rattle.reader.proofs.Reading.{Brought, start, whole, cut, brought}
@@ -50,7 +49,7 @@ says_lines 𝓕 (stop a at) j elements = refl
 pub record Ready (at : ℕ) (s : State) : Type 0 where
   pub few : s.joining.repeats ≤ s.joining.pieces
   pub fewer : s.joining.pieces ≤ at
-  pub room : (g : Geometry) → number_of (start_refusal s.joining.held g (length s.matrix)) ≡ 0
+  pub room : (g : Geometry) → start_refusal s.joining.held g (length s.matrix) ≡ Ok tt
 
 at_most_one : (t : Bool) → pick t 1 0 ≤ 1
 at_most_one true = omega arith
@@ -61,9 +60,9 @@ positive zero h = absurd (h refl)
 positive (suc n) h = (n, refl)
 
 module _ (𝓕 : FieldLaws) where
-  pub ready_passes : (at : ℕ) (s : State) (g : Geometry) → Ready at s → at + 1 + body_of g ≤ largest → number_of ((joins 𝓕).refusal s g) ≡ 0
+  pub ready_passes : (at : ℕ) (s : State) (g : Geometry) → Ready at s → at + 1 + body_of g ≤ largest → (joins 𝓕).refusal s g ≡ Ok tt
   ready_passes at s g r l =
-      ap number_of (tested s.joining g (length s.matrix) text_room (omega arith) r.few (omega (arith, r.fewer))) ∙ r.room g
+      tested s.joining g (length s.matrix) text_room (omega arith) r.few (omega (arith, r.fewer)) ∙ r.room g
 
   pub still_ready : (at : ℕ) (s : State) (g : Geometry) (full : List ℕ) → Ready at s → Ready (at + 1 + body_of g) ((joins 𝓕).after s g full)
   unfolding joined_after joined start_refusal
@@ -80,7 +79,7 @@ module _ (𝓕 : FieldLaws) where
       record {
         few = omega arith;
         fewer = omega arith;
-        room = λ g. ap number_of (new_fits g (length (replicate {A = ℕ} matrix_length 0)) (omega (arith, length-replicate {A = ℕ} matrix_length 0, matrix_fits g)));
+        room = λ g. new_fits g (length (replicate {A = ℕ} matrix_length 0)) (omega (arith, length-replicate {A = ℕ} matrix_length 0, matrix_fits g));
       }
 
   -- ---- every run prints the listing
@@ -110,7 +109,7 @@ module _ (𝓕 : FieldLaws) where
   -- ---- there is a run
 
   module _ (s : State) {r next : Reader} {bytes : List ℕ} where
-    not_declined : {came : Came} → Ready r.at s → Brought r bytes next came → number_of (declines (joins 𝓕) s came) ≡ 0
+    not_declined : {came : Came} → Ready r.at s → Brought r bytes next came → declines (joins 𝓕) s came ≡ Ok tt
     unfolding declines
     not_declined h (start e) = refl
     not_declined h (whole {g = g} b e l) = ready_passes r.at s g h l
@@ -143,7 +142,7 @@ module _ (𝓕 : FieldLaws) where
       let s : State = state j elements in
       let b : Brought r bytes next came = brought r bytes q in
       let S : State = kept (joins 𝓕) s came bytes in
-      let o : Outcome = outcome_by 𝓕 m elements bytes (Of next came then) in
+      let o : Outcome = outcome_by 𝓕 m elements bytes (Ok (brought_by next came then)) in
       let fed = feeds 𝓕 m bytes elements area lent (omega (arith, length-replicate {A = ℕ} text_room 0)) h q (not_declined s ready b) o refl in
       let rest = runs_from later S.joining (ending_by S then) S.matrix (over (found_by S then) area) (omega (arith, no_shorter (found_by S then) area)) (next_ready s ready b) in
       (_, rest.1, rest.2, turn some fed rest.3)

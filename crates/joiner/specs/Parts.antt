@@ -1,12 +1,13 @@
 -- What the private functions leave: helpers of their contracts.
-use Rattle.std.specs.Prelude.{◌≡◌, List, ℕ, length}
+use Rattle.std.specs.Prelude.{◌≡◌, List, ℕ, length, Result}
+use Rattle.answers.specs.declared.RLNCError.{RLNCError}
 use Rattle.galois.specs.FieldLaws.{FieldLaws}
-use Rattle.block.specs.Refusal.{if_ok}
+use Rattle.block.specs.Refusal.{if_ok, answered}
 use Rattle.reader.specs.declared.Came.{Came}
 use Rattle.reader.specs.declared.Then.{Then}
 use Rattle.reader.specs.Pump.{front, kept, declines, back}
 use Rattle.listing.specs.declared.join.Step.{Step}
-use Rattle.listing.specs.declared.join.Step.TheVariants as step·
+use Rattle.listing.specs.Steps.{stepped}
 use Rattle.joiner.specs.declared.Closing.{Closing}
 use Rattle.joiner.specs.Machine.{State, joins, ending_by, found_by, over}
 
@@ -15,11 +16,9 @@ pub record Front (text out : List ℕ) (n : ℕ) (last : List ℕ) : Type 0 wher
   pub counts : n ≡ length text
   pub puts : last ≡ over text out
 
-pub record Begun (𝓕 : FieldLaws) (s : State) (came : Came) (bytes out : List ℕ) (r : Step) (matrix last : List ℕ) : Type 0 where
+pub record Begun (𝓕 : FieldLaws) (s : State) (came : Came) (bytes out : List ℕ) (r : Result Step RLNCError) (matrix last : List ℕ) : Type 0 where
   pub result :
-      r
-      ≡ if_ok (declines (joins 𝓕) s came) (step·.Line (kept (joins 𝓕) s came bytes).joining (length (front (joins 𝓕) s came bytes)))
-      (step·.Refused (declines (joins 𝓕) s came))
+      r ≡ answered (declines (joins 𝓕) s came) (stepped (kept (joins 𝓕) s came bytes).joining (length (front (joins 𝓕) s came bytes)))
   pub left : matrix ≡ if_ok (declines (joins 𝓕) s came) (kept (joins 𝓕) s came bytes).matrix s.matrix
   pub printed : last ≡ if_ok (declines (joins 𝓕) s came) (over (front (joins 𝓕) s came bytes) out) out
 

@@ -3,18 +3,15 @@
 #![tactic(auto)]
 
 ghost use Rattle.std.specs.Prelude.{◌≡◌, ◌≤◌, length};
-ghost use Rattle.answers.specs.Number.{number_of};
 ghost use Rattle.field.specs.FieldOf.{field_of};
-ghost use Rattle.reader.specs.declared.Then.TheVariants as Then·;
 ghost use Rattle.reader.specs.Reading.{wanted, body_in};
-ghost use Rattle.listing.specs.Lines.{stop_line};
 ghost use Rattle.listing.specs.Listing.{block_room};
 ghost use Rattle.joiner.specs.Machine.{end_room, text_room, fresh, state, Feeding};
-ghost use Rattle.joiner.specs.Parts.{Front, Begun, Closed};
+ghost use Rattle.joiner.specs.Parts.{Begun, Closed};
 
-use answers::Answer;
+use answers::RLNCError;
 use field::Field;
-use listing::Put;
+use listing::LINE_LEN;
 use listing::join::{End, Joining, Step};
 use reader::{Came, Progress, Reader, Then};
 
@@ -24,7 +21,7 @@ pub const MATRIX_LEN: usize = 16384;
 pub const BLOCK_LEN: usize = 15360;
 
 // The longest text of one turn: a piece's line, the end line, and the line of the data.
-pub const TEXT_LEN: usize = 30889;
+pub const TEXT_LEN: usize = 2 * LINE_LEN + 2 * BLOCK_LEN + 1;
 
 // How it ended: so many bytes of data stand at the front of the lent block; there are none; or the stream stopped.
 #[derive(Clone, Copy)]
@@ -42,12 +39,12 @@ pub struct Joiner {
     pub ending: Ending,
 }
 
-// The machine after a turn, and how many bytes of text there are: of what came first, and behind it of what follows, the last lines among them. Or
-// why nothing was done.
+// The machine after a turn, and how many bytes of text there are: of what came first, and behind it of what follows, the last lines among them.
 #[derive(Clone, Copy)]
-pub enum Fed {
-    Text(Joiner, usize, usize),
-    Refused(Answer),
+pub struct Fed {
+    pub joiner: Joiner,
+    pub first: usize,
+    pub later: usize,
 }
 
 #[derive(Clone, Copy)]
@@ -71,8 +68,7 @@ impl Joiner {
     pub fn wants(self) -> usize
         ensures { result ≡ wanted self.reader.place }
     {
-        let reader = self.reader;
-        reader.wants()
+        self.reader.wants()
     }
 
     // Takes the bytes that it wants, or fewer where the input has ended. Refuses before it changes anything: 21 where `out` is below the longest
@@ -85,39 +81,27 @@ impl Joiner {
         elements: &mut [u8],
         data: &mut [u8],
         out: &mut [u8],
-    ) -> Fed
+    ) -> Result<Fed, RLNCError>
         ensures { Feeding (field_of f) self input.now elements.old «data».old out.old result elements.new «data».new out.new }
     {
-        if out.len() < TEXT_LEN {
-            return Fed::Refused(Answer::NoRoom);
+        if out.len() < TEXT_LEN || data.len() < BLOCK_LEN {
+            return Err(RLNCError::NoRoom);
         }
-        if data.len() < BLOCK_LEN {
-            return Fed::Refused(Answer::NoRoom);
-        }
-        let reader = self.reader;
-        let joining = self.joining;
-        match reader.read(input) {
-            Progress::Refused(a) => Fed::Refused(a),
-            Progress::Of(reader, came, then) => match begin(
-                joining, f, came, input, elements, out,
-            ) {
-                Step::Refused(a) => Fed::Refused(a),
-                Step::Line(joining, n) => {
-                    let at = reader.at;
-                    let c = close(joining, then, at, elements, data, &mut out[n..]);
-                    let ending = c.ending;
-                    Fed::Text(
-                        Joiner {
-                            reader,
-                            joining,
-                            ending,
-                        },
-                        n,
-                        c.size,
-                    )
-                }
-            },
-        }
+        let Progress { reader, came, then } = self.reader.read(input)?;
+        let step = begin(self.joining, f, came, input, elements, out)?;
+        let joining = step.joining;
+        let first = step.size;
+        let closing = close(joining, then, reader.at, elements, data, &mut out[first..]);
+        let joiner = Joiner {
+            reader,
+            joining,
+            ending: closing.ending,
+        };
+        Ok(Fed {
+            joiner,
+            first,
+            later: closing.size,
+        })
     }
 }
 
@@ -129,25 +113,23 @@ fn begin(
     input: &[u8],
     elements: &mut [u8],
     out: &mut [u8],
-) -> Step
+) -> Result<Step, RLNCError>
     requires text_room_in_bounds { text_room ≤ length out.old }
     requires came_in_bounds { body_in came ≤ length input.now }
     ensures { Begun (field_of f) (state joining elements.old) came input.now out.old result elements.new out.new }
 {
     match came {
-        Came::Start => match listing::header_line(out) {
-            Put::Bytes(n) => Step::Line(joining, n),
-            Put::Refused(a) => Step::Refused(a),
-        },
-        Came::Piece(g) => {
-            let n = g.body_len();
-            joining.piece(f, g, &input[..n], elements, out)
+        Came::Start => {
+            let size = listing::header_line(out)?;
+            Ok(Step { joining, size })
         }
-        Came::Cut => Step::Line(joining, 0),
+        Came::Piece(g) => joining.piece(f, g, &input[..g.body_len()], elements, out),
+        Came::Cut => Ok(Step { joining, size: 0 }),
     }
 }
 
-// What follows: nothing before a body has come, the lines of the end, or the line of a stop.
+// What follows: nothing before a body has come; the lines of the end, and the data at the front of the block; or the line of a stop. There is
+// room for each.
 fn close(
     joining: Joining,
     then: Then,
@@ -165,47 +147,22 @@ fn close(
             ending: Ending::NotYet,
             size: 0,
         },
-        Then::End => finish(joining, elements, data, out),
-        Then::Stop(a) => {
-            let size = stop(at, a, out);
-            Closing {
-                ending: Ending::Stopped,
+        Then::End => match joining
+            .finish(elements, &mut data[..BLOCK_LEN], out)
+            .unwrap()
+        {
+            End::Data(n, size) => Closing {
+                ending: Ending::Rebuilt(n),
                 size,
-            }
-        }
-    }
-}
-
-// The end record: the last lines, and the data at the front of the block.
-fn finish(joining: Joining, elements: &[u8], data: &mut [u8], out: &mut [u8]) -> Closing
-    requires end_room_in_bounds { end_room ≤ length out.old }
-    requires block_room_in_bounds { block_room ≤ length «data».old }
-    ensures { Closed (state joining elements.now) Then·.End 0 «data».old out.old result «data».new out.new }
-{
-    let room = BLOCK_LEN;
-    match joining.finish(elements, &mut data[..room], out) {
-        End::Data(n, size) => Closing {
-            ending: Ending::Rebuilt(n),
-            size,
+            },
+            End::Alone(size) => Closing {
+                ending: Ending::Open,
+                size,
+            },
         },
-        End::Alone(size) => Closing {
-            ending: Ending::Open,
-            size,
-        },
-        End::Refused(_) => Closing {
+        Then::Stop(e) => Closing {
             ending: Ending::Stopped,
-            size: 0,
+            size: listing::stop_line(out, e, at).unwrap(),
         },
-    }
-}
-
-// The line of a stop. Answers how long it is.
-fn stop(at: u64, answer: Answer, out: &mut [u8]) -> usize
-    requires { end_room ≤ length out.old }
-    ensures { Front (stop_line (number_of answer) at) out.old result out.new }
-{
-    match listing::stop_line(out, answer, at) {
-        Put::Bytes(n) => n,
-        Put::Refused(_) => 0,
     }
 }

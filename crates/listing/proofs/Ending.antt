@@ -1,152 +1,128 @@
 -- The outcomes of the end: a refusal, an end line alone where recovery refuses, and with a line of the data where it does not.
 -- Assumes nothing.
-use mathlib.Core.Path.{◌≡◌, refl, sym, ap, ◌∙◌, subst}
+use mathlib.Core.Path.{◌≡◌, refl, sym, ap, ◌∙◌}
 use mathlib.Core.List.{List, ◌++◌}
-use Prim.Native.Nat.{ℕ, zero, suc, ◌+◌, ◌*◌, ◌≤◌, ◌<◌}
+use Prim.Native.Nat.{ℕ, ◌+◌, ◌*◌, ◌≤◌, ◌<◌}
 use native.Mathlib.Omega.{arith}
 use borrow.Author.Tests.{lt-ltb, le-ltb}
 use lib.ListN.{length, take, drop, length-append}
 use lib.Seq.{length-take-le, take_at}
+use Rattle.std.specs.Prelude.{Option, None, Some, Result, Ok, Err}
 use Rattle.answers.specs.Number.{number_of}
-use Rattle.answers.specs.declared.Answer.{Answer}
-use Rattle.answers.specs.declared.Answer.TheVariants.{NoRoom}
-use Rattle.linear.specs.Choice.{if_zero}
-use Rattle.block.specs.Refusal.{if_ok}
+use Rattle.answers.specs.declared.RLNCError.{RLNCError}
+use Rattle.answers.specs.declared.RLNCError.TheVariants.{NoRoom, NotAllPiecesReceivedYet}
+use Rattle.block.specs.declared.BrokenPadding.{BrokenPadding}
+use Rattle.block.specs.Refusal.{if_ok, answered}
 use Rattle.block.specs.Padding.{marker}
 use Rattle.block.specs.Reading.{reading, data_length}
 use Rattle.block.proofs.Reading.{Reason, reason, no_marker, no_data, no_zeros, carried}
-use Rattle.block.specs.declared.Padding.{Padding}
 use Rattle.decoder.specs.declared.Decoder.{Decoder}
-use Rattle.decoder.specs.declared.Recovered.{Recovered}
-use Rattle.decoder.specs.declared.Recovered.TheVariants as recovered
 use Rattle.decoder.specs.Entries.{block_in, recover_refusal, Recovery}
-use Rattle.listing.specs.declared.Put.{Put}
-use Rattle.listing.specs.declared.join.Held.TheVariants as held
 use Rattle.listing.specs.declared.join.Joining.{Joining}
-use Rattle.listing.specs.declared.join.End.{End}
 use Rattle.listing.specs.declared.join.End.TheVariants as end
 use Rattle.listing.specs.Lines.{end_line, data_line}
 use Rattle.listing.specs.Puts.{Lined}
 use Rattle.listing.specs.Listing.{end_answer, data_of, end_lines}
-use Rattle.listing.specs.Steps.{line_room, end_refusal, alone_of, with_data, Finished}
-use Rattle.listing.proofs.Counting.{put_bytes, put_text}
+use Rattle.listing.specs.Steps.{line_room, end_refusal, Recovered, Finished}
+use Rattle.listing.proofs.Answered.{with_value, with_error}
+use Rattle.listing.proofs.Counting.{put_size, put_text}
 use Rattle.listing.proofs.Hex.{length_data_line}
 use Rattle.listing.proofs.Short.{end_short}
-use Rattle.listing.proofs.Stepping.{chosen, declined}
 
 -- ---- what recovery answered
 
-within : (M : ℕ) (block : List ℕ) {p : Padding} → Reason M block p → data_length p ≤ length block
+within : (M : ℕ) (block : List ℕ) {p : Result ℕ BrokenPadding} → Reason M block p → data_length p ≤ length block
 unfolding data_length
 within M block (no_marker n) = omega arith
 within M block (no_data l) = omega arith
 within M block (no_zeros i j l a b n) = omega arith
 within M block (carried l n z) = omega (arith, l.inside)
 
--- how many bytes of data the block has
-abbrev size : Decoder → List ℕ → ℕ
-size d elements = data_length (reading marker (block_in d elements))
-
-length_data : (d : Decoder) (elements : List ℕ) → length (data_of (held.Of d) elements) ≡ size d elements
+length_data : (d : Decoder) (elements : List ℕ) → length (data_of (Some d) elements) ≡ data_length (reading marker (block_in d elements))
 unfolding data_of
-length_data d elements = length-take-le (size d elements) (block_in d elements) (within marker (block_in d elements) (reason marker (block_in d elements)))
+length_data d elements =
+    length-take-le (data_length (reading marker (block_in d elements))) (block_in d elements) (within marker (block_in d elements) (reason marker (block_in d elements)))
 
-module _ {d : Decoder} {elements area last : List ℕ} {r : Recovered} (x : Recovery marker d elements area r last) where
-  pub found : (n : ℕ) → r ≡ recovered.Data n
-      → (number_of (recover_refusal marker d elements (length area)) ≡ 0) × (n ≡ length (data_of (held.Of d) elements))
-      × (last ≡ data_of (held.Of d) elements ++ drop (length (data_of (held.Of d) elements)) area)
-  unfolding data_of
-  found n e =
-      let g = go (recover_refusal marker d elements (length area)) (number_of (recover_refusal marker d elements (length area))) refl (sym e ∙ x.result) x.left in
-      (g.0, g.1 ∙ sym (length_data d elements), g.2 ∙ λ i. data_of (held.Of d) elements ++ drop (sym (length_data d elements) i) area)
-    where
-      go : (a : Answer) (m : ℕ) → number_of a ≡ m → recovered.Data n ≡ if_zero m (recovered.Data (size d elements)) (recovered.Refused a)
-          → last ≡ if_zero m (take (size d elements) (block_in d elements) ++ drop (size d elements) area) area
-          → (number_of a ≡ 0) × (n ≡ size d elements) × (last ≡ take (size d elements) (block_in d elements) ++ drop (size d elements) area)
-      go a zero m e l = (m, cc, l)
-      go a (suc k) m e l = let z : ◌≡◌ {A = ℕ} 0 1 = cc in absurd (omega arith)
+module _ {elements area : List ℕ} where
+  pub recovered_nothing : {held : Option Decoder} {r : Result ℕ RLNCError} → held ≡ None → r ≡ Err NotAllPiecesReceivedYet → Recovered held elements area r area
+  unfolding end_answer
+  recovered_nothing n e = record { result = rw n e; left = rw n refl }
 
-  pub not_found : (a : Answer) → r ≡ recovered.Refused a
-      → (recover_refusal marker d elements (length area) ≡ a) × ((n : ℕ) × (number_of a ≡ suc n)) × (last ≡ area)
-  not_found a e = go (recover_refusal marker d elements (length area)) (number_of (recover_refusal marker d elements (length area))) refl (sym e ∙ x.result) x.left
-    where
-      go : (b : Answer) (m : ℕ) → number_of b ≡ m → recovered.Refused a ≡ if_zero m (recovered.Data (size d elements)) (recovered.Refused b)
-          → last ≡ if_zero m (take (size d elements) (block_in d elements) ++ drop (size d elements) area) area
-          → (b ≡ a) × ((n : ℕ) × (number_of a ≡ suc n)) × (last ≡ area)
-      go b zero m e l = let z : ◌≡◌ {A = ℕ} 0 1 = cc in absurd (omega arith)
-      go b (suc k) m e l = let s : b ≡ a = cc in (s, (k, ap number_of (sym s) ∙ m), l)
+  pub recovered : {d : Decoder} {last : List ℕ} {r : Result ℕ RLNCError} → Recovery marker d elements area r last → Recovered (Some d) elements area r last
+  unfolding end_answer data_of
+  recovered {d} x =
+      let n = sym (length_data d elements) in
+      let a = recover_refusal marker d elements (length area) in
+      record {
+        result = x.result ∙ ap (answered a) n;
+        left = x.left ∙ ap (λ (m : ℕ). if_ok a (data_of (Some d) elements ++ drop m area) area) n;
+      }
+
+module _ {held : Option Decoder} {elements area last : List ℕ} {r : Result ℕ RLNCError} (x : Recovered held elements area r last) where
+  abbrev bytes : List ℕ
+  bytes = data_of held elements
+
+  pub found : {n : ℕ} → r ≡ Ok n → (end_answer held elements (length area) ≡ Ok tt) × (n ≡ length bytes) × (last ≡ bytes ++ drop (length bytes) area)
+  found e = let v = with_value (end_answer held elements (length area)) (sym e ∙ x.result) in (v.0, v.1, rw v.0 at x.left)
+
+  pub not_found : {b : RLNCError} → r ≡ Err b → (end_answer held elements (length area) ≡ Err b) × (last ≡ area)
+  not_found e = let v = with_error (end_answer held elements (length area)) (length bytes) (sym e ∙ x.result) in (v, rw v at x.left)
 
   -- the data that were written, and that they lie in the buffer
-  pub found_data : (n : ℕ) → r ≡ recovered.Data n → take n last ≡ data_of (held.Of d) elements
-  found_data n e =
-      let f = found n e in
-      ap (take n) f.2 ∙ take_at (data_of (held.Of d) elements) (drop (length (data_of (held.Of d) elements)) area) n (sym f.1)
+  pub found_data : {n : ℕ} → r ≡ Ok n → take n last ≡ bytes
+  found_data {n} e = let f = found e in ap (take n) f.2 ∙ take_at bytes (drop (length bytes) area) n (sym f.1)
 
-  pub found_within : (n : ℕ) → r ≡ recovered.Data n → n ≤ length last
-  found_within n e =
-      let f = found n e in
-      omega (arith, f.1, ap length f.2, length-append (data_of (held.Of d) elements) (drop (length (data_of (held.Of d) elements)) area))
+  pub found_within : {n : ℕ} → r ≡ Ok n → n ≤ length last
+  found_within e = let f = found e in omega (arith, f.1, ap length f.2, length-append bytes (drop (length bytes) area))
 
 -- ---- the lines of the end
 
-passed : (room out : ℕ) → line_room + (room * 2 + 1) ≤ out → number_of (end_refusal room out) ≡ 0
+passed : (room out : ℕ) → line_room + (room * 2 + 1) ≤ out → end_refusal room out ≡ Ok tt
 unfolding end_refusal
 passed room out h = simp (le-ltb _ _ h)
 
+pub lines_fit : (bytes : List ℕ) (repeats room : ℕ) → line_room + (length bytes * 2 + 1) ≤ room
+    → length (end_line 0 (length bytes) repeats ++ data_line bytes) ≤ room
+lines_fit bytes repeats room h =
+    omega (arith, length-append (end_line 0 (length bytes) repeats) (data_line bytes), end_short 0 (length bytes) repeats, length_data_line bytes)
+
 module _ {j : Joining} {elements area out : List ℕ} where
-  pub end_refused : length out < line_room + (length area * 2 + 1) → Finished j elements area out (end.Refused NoRoom) area out
+  pub end_refused : length out < line_room + (length area * 2 + 1) → Finished j elements area out (Err NoRoom) area out
   unfolding end_refusal
   end_refused h = record { result = simp (lt-ltb _ _ h); left = simp (lt-ltb _ _ h); printed = simp (lt-ltb _ _ h) }
 
-  ended : {kept text : List ℕ} {r : Put} {q : End} → line_room + (length area * 2 + 1) ≤ length out → length (end_lines j elements (length area)) ≤ length out
-      → Lined (end_lines j elements (length area)) out r text
-      → q ≡ if_ok (end_answer j.held elements (length area)) (end.Data (length (data_of j.held elements)) (length (end_lines j elements (length area)))) (end.Alone (length (end_lines j elements (length area))))
-      → kept ≡ if_ok (end_answer j.held elements (length area)) (data_of j.held elements ++ drop (length (data_of j.held elements)) area) area
-      → Finished j elements area out q kept text
-  ended h fits l e k =
-      let a : Answer = end_refusal (length area) (length out) in
-      let ok : number_of (end_refusal (length area) (length out)) ≡ 0 = passed (length area) (length out) h in
-      record {
-        result = e ∙ chosen a _ _ ok;
-        left = k ∙ chosen a _ _ ok;
-        printed = put_text l fits ∙ chosen a _ _ ok;
-      }
-
   -- recovery refused
-  pub ended_alone : {text : List ℕ} {r : Put} (a : Answer) (n : ℕ) → line_room + (length area * 2 + 1) ≤ length out
-      → end_answer j.held elements (length area) ≡ a → number_of a ≡ suc n → Lined (end_line (number_of a) 0 j.repeats) out r text
-      → Finished j elements area out (alone_of r) area text
-  unfolding end_lines alone_of
-  ended_alone {text} {r} a n h p k l =
-      let b : Answer = end_answer j.held elements (length area) in
-      let e : end_line (number_of a) 0 j.repeats ≡ end_lines j elements (length area) = declined a b n _ (λ b. end_line (number_of b) 0 j.repeats) p k in
-      let fits : length (end_lines j elements (length area)) ≤ length out = omega (arith, sym (ap length e), end_short (number_of a) 0 j.repeats) in
-      let whole : Lined (end_lines j elements (length area)) out r text = subst (λ (x : List ℕ). Lined x out r text) e l in
-      ended h fits whole (ap alone_of (put_bytes whole fits) ∙ declined a b n _ (λ b. end.Alone (length (end_lines j elements (length area)))) p k)
-      (declined a b n _ (λ b. area) p k)
+  pub ended_alone : {e : RLNCError} {n : ℕ} {text : List ℕ} {r : Result ℕ RLNCError} → line_room + (length area * 2 + 1) ≤ length out
+      → end_answer j.held elements (length area) ≡ Err e → Lined (end_line (number_of (Err e)) 0 j.repeats) out r text → r ≡ Ok n
+      → Finished j elements area out (Ok (end.Alone n)) area text
+  unfolding end_lines
+  ended_alone {e} {n} h p l q =
+      let ok = passed (length area) (length out) h in
+      let fits : length (end_line (number_of (Err e)) 0 j.repeats) ≤ length out = omega (arith, end_short (number_of (Err e)) 0 j.repeats) in
+      record { result = rw (ok, p) (ap (λ (m : ℕ). Ok (end.Alone m)) (put_size l fits n q)); left = rw (ok, p) refl; printed = rw (ok, p) (put_text l fits) }
 
   -- it did not
-  pub ended_data : {bytes kept text : List ℕ} {r : Put} {n : ℕ} → line_room + (length area * 2 + 1) ≤ length out
-      → number_of (end_answer j.held elements (length area)) ≡ 0 → n ≡ length (data_of j.held elements) → bytes ≡ data_of j.held elements
-      → length bytes ≤ length area → kept ≡ data_of j.held elements ++ drop (length (data_of j.held elements)) area
-      → Lined (end_line 0 (length bytes) j.repeats ++ data_line bytes) out r text → Finished j elements area out (with_data n r) kept text
-  unfolding end_lines with_data
-  ended_data {bytes} {kept} {text} {r} {n} h ok m d few k l =
-      let b : Answer = end_answer j.held elements (length area) in
-      let e : end_line 0 (length bytes) j.repeats ++ data_line bytes ≡ end_lines j elements (length area) =
-      (λ i. end_line 0 (length (d i)) j.repeats ++ data_line (d i)) ∙ chosen b _ _ ok in
-      let fits : length (end_lines j elements (length area)) ≤ length out =
-      omega (arith, sym (ap length e), length-append (end_line 0 (length bytes) j.repeats) (data_line bytes), end_short 0 (length bytes) j.repeats, length_data_line bytes) in
-      let whole : Lined (end_lines j elements (length area)) out r text = subst (λ (x : List ℕ). Lined x out r text) e l in
-      ended h fits whole ((λ i. with_data (m i) (put_bytes whole fits i)) ∙ chosen b _ _ ok) (k ∙ chosen b _ _ ok)
+  pub ended_data : {n size : ℕ} {bytes kept text : List ℕ} {r : Result ℕ RLNCError} → line_room + (length area * 2 + 1) ≤ length out
+      → (end_answer j.held elements (length area) ≡ Ok tt) × (n ≡ length (data_of j.held elements))
+      × (kept ≡ data_of j.held elements ++ drop (length (data_of j.held elements)) area)
+      → bytes ≡ data_of j.held elements → length bytes ≤ length area → Lined (end_line 0 (length bytes) j.repeats ++ data_line bytes) out r text → r ≡ Ok size
+      → Finished j elements area out (Ok (end.Data n size)) kept text
+  unfolding end_lines
+  ended_data {n} {size} {bytes} {r = r} h f d few l q =
+      let ok = passed (length area) (length out) h in
+      let fits = lines_fit bytes j.repeats (length out) (omega arith) in
+      let lines : end_line 0 (length bytes) j.repeats ++ data_line bytes ≡ end_line 0 (length (data_of j.held elements)) j.repeats ++ data_line (data_of j.held elements) =
+      λ i. end_line 0 (length (d i)) j.repeats ++ data_line (d i) in
+      record {
+        result = rw (ok, f.0) (λ i. Ok (end.Data (f.1 i) ((put_size l fits size q ∙ ap length lines) i)));
+        left = rw (ok, f.0) f.2;
+        printed = rw (ok, f.0) (put_text l fits ∙ λ i. lines i ++ drop (length (lines i)) out);
+      }
 
 -- the one outcome of an end that is not refused
 pub ends : (j : Joining) (elements area out : List ℕ) → line_room + (length area * 2 + 1) ≤ length out
     → Finished j elements area out
-    (if_ok (end_answer j.held elements (length area)) (end.Data (length (data_of j.held elements)) (length (end_lines j elements (length area)))) (end.Alone (length (end_lines j elements (length area)))))
+    (Ok (if_ok (end_answer j.held elements (length area)) (end.Data (length (data_of j.held elements)) (length (end_lines j elements (length area)))) (end.Alone (length (end_lines j elements (length area))))))
     (if_ok (end_answer j.held elements (length area)) (data_of j.held elements ++ drop (length (data_of j.held elements)) area) area)
     (end_lines j elements (length area) ++ drop (length (end_lines j elements (length area))) out)
-ends j elements area out h =
-    let a : Answer = end_refusal (length area) (length out) in
-    let ok : number_of (end_refusal (length area) (length out)) ≡ 0 = passed (length area) (length out) h in
-    record { result = chosen a _ _ ok; left = chosen a _ _ ok; printed = chosen a _ _ ok }
+ends j elements area out h = let ok = passed (length area) (length out) h in record { result = rw ok refl; left = rw ok refl; printed = rw ok refl }

@@ -1,16 +1,17 @@
--- Hexadecimal digits, two for each byte: the invariant of the loop that puts them is carried by one turn.
+-- Hexadecimal digits, two for each byte: how long their text is, and that the crate `hex` writes it.
 -- Assumes nothing.
-use mathlib.Core.Path.{◌≡◌, refl, sym, ap, ◌∙◌, subst}
-use mathlib.Core.List.{List, [], ◌∷◌, ◌++◌, append_assoc}
-use Prim.Native.Nat.{ℕ, ◌+◌, ◌*◌, ◌/◌, ◌%◌, ◌≤◌, ◌<◌}
-use native.Mathlib.Numerals.{add-one}
+use mathlib.Core.Path.{◌≡◌, refl}
+use mathlib.Core.Bool.{Bool, true, ◌&&◌}
+use mathlib.Core.List.{List, [], ◌∷◌}
+use Prim.Native.Nat.{ℕ, zero, suc, ◌+◌, ◌*◌, ◌/◌, ◌%◌, ◌<◌}
 use native.Mathlib.Omega.{arith}
-use lib.ListN.{length, get_or, take, set, length-append}
-use lib.Seq.{take-suc, length-take-le}
+use lib.Dec.{eqb}
+use lib.ListN.{length, length-append}
+use Rattle.std.proofs.Common.{slice_index, inl, inr}
+use Rattle.std.proofs.lemmas.Bool.{and_parts, cases_lt, eqb-true}
+use Rattle.hex.specs.Hex.{IsBytes, lower_digits, encode_with, encode_lower}
 use Rattle.listing.specs.Text.{digit, hex}
 use Rattle.listing.specs.Lines.{data_line}
-use Rattle.listing.specs.Puts.{Appended}
-use Rattle.listing.proofs.Putting.{one_more}
 
 pub length_hex : (bytes : List ℕ) → length (hex bytes) ≡ length bytes * 2
 unfolding hex
@@ -21,31 +22,31 @@ pub length_data_line : (bytes : List ℕ) → length (data_line bytes) ≡ lengt
 unfolding data_line
 length_data_line bytes = omega (arith, length_hex bytes, length-append (hex bytes) (10 ∷ []))
 
-hex_append : (xs ys : List ℕ) → hex (xs ++ ys) ≡ hex xs ++ hex ys
-unfolding hex
-hex_append [] ys = refl
-hex_append (x ∷ xs) ys = ap (λ (l : List ℕ). digit (x / 16) ∷ digit (x % 16) ∷ l) (hex_append xs ys)
+-- ---- the crate's sixteen digits are ours, place by place
 
-module _ (bytes : List ℕ) (i : ℕ) (h : i < length bytes) where
-  byte : ℕ
-  byte = get_or bytes i 0
+agree : ℕ → Bool
+agree zero = true
+agree (suc n) = eqb (slice_index lower_digits n) (digit n) && agree n
 
-  hex_more : hex (take (i + 1) bytes) ≡ (hex (take i bytes) ++ (digit (byte / 16) ∷ [])) ++ (digit (byte % 16) ∷ [])
-  unfolding hex byte
-  hex_more =
-      ap (λ (n : ℕ). hex (take n bytes)) (add-one i) ∙ ap hex (take-suc bytes i 0 h) ∙ hex_append (take i bytes) (get_or bytes i 0 ∷ [])
-      ∙ sym (append_assoc (hex (take i bytes)) (digit (byte / 16) ∷ []) (digit (byte % 16) ∷ []))
+agree_at : (n d : ℕ) → agree n ≡ true → d < n → slice_index lower_digits d ≡ digit d
+unfolding agree
+agree_at zero d a h = absurd (omega arith)
+agree_at (suc n) d a h =
+    let parts = and_parts (eqb (slice_index lower_digits n) (digit n)) (agree n) a in
+    elim (cases_lt d n) [
+      | inl below ↦ agree_at n d parts.1 below
+      | inr top ↦
+          let e : d ≡ n = omega arith in
+          rw e (eqb-true _ _ parts.0)
+    ]
 
-  pub place : {out now : List ℕ} {at : ℕ} → Appended (hex (take i bytes)) out 0 at now → at ≡ i * 2
-  place a = omega (arith, a.ends, length_hex (take i bytes), length-take-le i bytes (omega arith))
+same_digit : (d : ℕ) → d < 16 → slice_index lower_digits d ≡ digit d
+unfolding agree
+same_digit d h = agree_at 16 d refl h
 
-  pub turn : {out now : List ℕ} {at high low : ℕ} → Appended (hex (take i bytes)) out 0 at now → length bytes * 2 ≤ length out
-      → high ≡ digit (get_or bytes i 0 / 16) → low ≡ digit (get_or bytes i 0 % 16)
-      → Appended (hex (take (i + 1) bytes)) out 0 (at + 2) (set (set now at high) (at + 1) low)
-  unfolding byte
-  turn {out} {now} {at} {high} {low} a room p q =
-      let e = place a in
-      let two = one_more low (one_more high a (omega arith)) (omega arith) in
-      subst (λ (t : List ℕ). Appended t out 0 (at + 2) (set (set now at high) (at + 1) low))
-      (sym (hex_more ∙ (λ j. (hex (take i bytes) ++ (sym p j ∷ [])) ++ (sym q j ∷ []))))
-      (subst (λ (n : ℕ). Appended ((hex (take i bytes) ++ (high ∷ [])) ++ (low ∷ [])) out 0 n (set (set now at high) (at + 1) low)) (omega arith) two)
+pub written : (bytes : List ℕ) → IsBytes bytes → encode_lower bytes ≡ hex bytes
+unfolding encode_with hex
+written [] h = refl
+written (b ∷ bytes) h =
+    let fits : b < 256 = h 0 in
+    λ i. same_digit (b / 16) (omega arith) i ∷ same_digit (b % 16) (omega arith) i ∷ written bytes (λ k. h (suc k)) i

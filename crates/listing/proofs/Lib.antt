@@ -1,3 +1,4 @@
+pub mod Answered
 pub mod Counting
 pub mod Decimal
 pub mod Ending

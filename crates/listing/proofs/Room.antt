@@ -4,7 +4,7 @@ use mathlib.Core.Path.{◌≡◌}
 use Prim.Native.Nat.{ℕ, ◌*◌, ◌≤◌}
 use native.Mathlib.Omega.{arith}
 use borrow.Author.Tests.{le-ltb}
-use Rattle.answers.specs.declared.Answer.TheVariants.{Ok}
+use Rattle.std.specs.Prelude.{Ok}
 use Rattle.block.specs.Sizes.{over_limit}
 use Rattle.stream.specs.declared.Geometry.{Geometry}
 use Rattle.stream.specs.declared.Geometry.TheVariants.{Of3By2, Of16By240, Of32By480}
@@ -23,7 +23,7 @@ block_fits Of16By240 = omega arith
 block_fits Of32By480 = omega arith
 
 -- k·F bytes are enough for a new decoder
-pub new_fits : (g : Geometry) (room : ℕ) → pieces_of g * body_of g ≤ room → new_refusal (length_of g) (pieces_of g) room ≡ Ok
+pub new_fits : (g : Geometry) (room : ℕ) → pieces_of g * body_of g ≤ room → new_refusal (length_of g) (pieces_of g) room ≡ Ok tt
 unfolding new_refusal over_limit
 new_fits Of3By2 room h = rw (le-ltb room (3 * 5) h)
 new_fits Of16By240 room h = rw (le-ltb room (16 * 256) h)

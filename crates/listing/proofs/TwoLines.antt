@@ -7,15 +7,14 @@ use native.Mathlib.Omega.{arith}
 use borrow.Rule.Slice.PartMut.{put_mid}
 use lib.ListN.{length, take, drop, length-append, length-drop, drop_of_length-le}
 use lib.Seq.{take_all, take-append_seam, drop-append_seam, drop-drop}
-use Rattle.answers.specs.declared.Answer.{Answer}
-use Rattle.listing.specs.declared.Put.{Put}
-use Rattle.listing.specs.declared.Put.TheVariants.{Bytes, Refused}
+use Rattle.std.specs.Prelude.{Result, Ok, Err}
+use Rattle.answers.specs.declared.RLNCError.{RLNCError}
 use Rattle.listing.specs.Puts.{Lined}
 use Rattle.listing.proofs.Putting.{placed}
 use Rattle.listing.proofs.Counting.{put_text, put_size, put_whole}
 
-module _ {first out last : List ℕ} {r : Put} {end : ℕ} (second : List ℕ) (l : Lined first out r last)
-    (h : length first + length second ≤ length out) (e : r ≡ Bytes end) where
+module _ {first out last : List ℕ} {r : Result ℕ RLNCError} {end : ℕ} (second : List ℕ) (l : Lined first out r last)
+    (h : length first + length second ≤ length out) (e : r ≡ Ok end) where
   rest : List ℕ
   rest = drop (length first) out
 
@@ -43,17 +42,17 @@ module _ {first out last : List ℕ} {r : Put} {end : ℕ} (second : List ℕ) (
   room : length second ≤ length rest
   room = omega (arith, left)
 
-  module _ {r' : Put} {last' : List ℕ} (l' : Lined second (take (length last - end) (drop end last)) r' last') where
+  module _ {r' : Result ℕ RLNCError} {last' : List ℕ} (l' : Lined second (take (length last - end) (drop end last)) r' last') where
     whole : Lined second rest r' last'
     whole = subst (λ (x : List ℕ). Lined second x r' last') part l'
 
-    pub never_refused : (a : Answer) → r' ≡ Refused a → ⊥
-    never_refused a e' = put_whole whole room a e'
+    pub never_refused : (e : RLNCError) → r' ≡ Err e → ⊥
+    never_refused e q = put_whole whole room e q
 
-    pub sum_is : (size : ℕ) → r' ≡ Bytes size → end + size ≡ length first + length second
+    pub sum_is : (size : ℕ) → r' ≡ Ok size → end + size ≡ length first + length second
     sum_is size e' = omega (arith, begun, put_size whole room size e')
 
-    pub two_lines : (size : ℕ) → r' ≡ Bytes size → Lined (first ++ second) out (Bytes (end + size)) (put_mid end (length last - end) last last')
+    pub two_lines : (size : ℕ) → r' ≡ Ok size → Lined (first ++ second) out (Ok (end + size)) (put_mid end (length last - end) last last')
     unfolding rest
     two_lines size e' =
         placed (omega (arith, length-append first second)) (sum_is size e' ∙ sym (length-append first second))

@@ -1,28 +1,26 @@
 -- What `setjoin` prints for a whole input: one definition, from bytes to text.
-use Rattle.std.specs.Prelude.{List, [], ◌++◌, ℕ, length, take, replicate}
-use Rattle.answers.specs.Number.{number_of}
-use Rattle.answers.specs.declared.Answer.{Answer}
-use Rattle.answers.specs.declared.Answer.TheVariants.{NotAllPiecesReceivedYet}
+use Rattle.std.specs.Prelude.{List, [], ◌++◌, ℕ, length, take, replicate, Option, None, Some, Err}
+use Rattle.answers.specs.Number.{Answer, number_of, code_of}
+use Rattle.answers.specs.declared.RLNCError.TheVariants.{NotAllPiecesReceivedYet}
 use Rattle.galois.specs.FieldLaws.{FieldLaws}
 use Rattle.block.specs.Refusal.{if_ok}
 use Rattle.block.specs.Padding.{marker}
 use Rattle.block.specs.Reading.{reading, data_length}
 use Rattle.stream.specs.Streams.{Stream, piece, end, stop, stream_of}
+use Rattle.decoder.specs.declared.Decoder.{Decoder}
 use Rattle.decoder.specs.Entries.{block_in, recover_refusal}
-use Rattle.listing.specs.declared.join.Held.{Held}
-use Rattle.listing.specs.declared.join.Held.TheVariants as held
 use Rattle.listing.specs.declared.join.Joining.{Joining}
 use Rattle.listing.specs.Lines.{header_line, end_line, stop_line, data_line}
 use Rattle.listing.specs.Joining.{nothing, joined_after, elements_after, line_for}
 
 -- the end: recovery's answer, with room for so many bytes. "With no piece the last line is `end 10 0 0`"
-unfoldable pub end_answer : Held → List ℕ → ℕ → Answer
-end_answer held.Nothing elements room = NotAllPiecesReceivedYet
-end_answer (held.Of d) elements room = recover_refusal marker d elements room
+unfoldable pub end_answer : Option Decoder → List ℕ → ℕ → Answer
+end_answer None elements room = Err NotAllPiecesReceivedYet
+end_answer (Some d) elements room = recover_refusal marker d elements room
 
-unfoldable pub data_of : Held → List ℕ → List ℕ
-data_of held.Nothing elements = []
-data_of (held.Of d) elements = take (data_length (reading marker (block_in d elements))) (block_in d elements)
+unfoldable pub data_of : Option Decoder → List ℕ → List ℕ
+data_of None elements = []
+data_of (Some d) elements = take (data_length (reading marker (block_in d elements))) (block_in d elements)
 
 -- "`end`, recovery's answer, length (0 if refused), repeats; then the data in lower-case hex if the answer is 0"
 unfoldable pub end_lines : Joining → List ℕ → ℕ → List ℕ
@@ -43,7 +41,7 @@ module _ (𝓕 : FieldLaws) where
   unfoldable pub lines_from : Joining → List ℕ → Stream → List ℕ
   lines_from j elements (piece g full later) = line_for 𝓕 j elements g full ++ lines_from (joined_after 𝓕 j elements g full) (elements_after 𝓕 j elements g full) later
   lines_from j elements end = end_lines j elements block_room
-  lines_from j elements (stop a at) = stop_line (number_of a) at
+  lines_from j elements (stop e at) = stop_line (code_of e) at
 
   -- "Header `n answer rows taken`; then a line a piece"
   unfoldable pub listing_of : List ℕ → List ℕ

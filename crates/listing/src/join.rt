@@ -3,42 +3,34 @@
 ghost use Rattle.std.specs.Prelude.{◌≡◌, ◌≤◌, ◌<◌, length};
 ghost use Rattle.field.specs.FieldOf.{field_of};
 ghost use Rattle.listing.specs.Joining.{nothing};
-ghost use Rattle.listing.specs.Steps.{Counted, Took, Stepped, alone_of, with_data, Finished};
+ghost use Rattle.listing.specs.Steps.{Started, Took, Counted, Stepped, Recovered, Finished};
 
-use crate::{LINE_LEN, Put};
-use answers::Answer;
-use decoder::{Decoder, Made, Recovered, Taken};
+use crate::LINE_LEN;
+use answers::{Answer, RLNCError};
+use decoder::{Decoder, Taken};
 use field::Field;
 use stream::Geometry;
 
-// The decoder, once a piece has come.
-#[derive(Clone, Copy)]
-pub enum Held {
-    Nothing,
-    Of(Decoder),
-}
-
-// How many pieces have come, and how many of them were answered 8.
+// The decoder, once a piece has come; how many pieces have come, and how many of them were answered 8.
 #[derive(Clone, Copy)]
 pub struct Joining {
-    pub held: Held,
+    pub held: Option<Decoder>,
     pub pieces: u64,
     pub repeats: u64,
 }
 
-// The record after a piece and how many bytes its line has, or why nothing was done.
+// The record after a piece, and how many bytes its line has.
 #[derive(Clone, Copy)]
-pub enum Step {
-    Line(Joining, usize),
-    Refused(Answer),
+pub struct Step {
+    pub joining: Joining,
+    pub size: usize,
 }
 
-// The lines of the end: how many bytes of data and of text there are, or how many of text where there are no data; or why nothing was done.
+// The lines of the end: how many bytes of data and of text there are, or how many of text where there are no data.
 #[derive(Clone, Copy)]
 pub enum End {
     Data(usize, usize),
     Alone(usize),
-    Refused(Answer),
 }
 
 impl Joining {
@@ -46,7 +38,7 @@ impl Joining {
         ensures { result ≡ nothing }
     {
         Joining {
-            held: Held::Nothing,
+            held: None,
             pieces: 0,
             repeats: 0,
         }
@@ -62,39 +54,27 @@ impl Joining {
         body: &[u8],
         elements: &mut [u8],
         out: &mut [u8],
-    ) -> Step
+    ) -> Result<Step, RLNCError>
         ensures { Stepped (field_of f) self g body.now elements.old out.old result elements.new out.new }
     {
         if out.len() < LINE_LEN {
-            return Step::Refused(Answer::NoRoom);
+            return Err(RLNCError::NoRoom);
         }
-        if self.pieces < self.repeats {
-            return Step::Refused(Answer::BadState);
+        if self.pieces < self.repeats || self.pieces == u64::MAX {
+            return Err(RLNCError::BadState);
         }
-        if u64::MAX <= self.pieces {
-            return Step::Refused(Answer::BadState);
-        }
-        let held = self.held;
-        match held {
-            Held::Of(d) => self.take(f, d, body, elements, out),
-            Held::Nothing => match Decoder::new(g.piece_byte_len(), g.piece_count(), elements) {
-                Made::Of(d) => self.take(f, d, body, elements, out),
-                Made::Refused(a) => Step::Refused(a),
-            },
-        }
+        let held = self.start(g, elements)?;
+        let (d, answer) = take(f, held, body, elements);
+        Ok(self.count(d, answer, out))
     }
 
-    // Takes a piece with the decoder.
-    fn take(self, f: Field, d: Decoder, body: &[u8], elements: &mut [u8], out: &mut [u8]) -> Step
-        requires in_bounds { 84 ≤ length out.old }
-        requires repeats_le_pieces { self.repeats ≤ self.pieces }
-        requires pieces_bound { self.pieces < 18446744073709551615 }
-        ensures { Took (field_of f) self d body.now elements.old out.old result elements.new out.new }
+    // The decoder that is held, or a new one of the piece's geometry.
+    fn start(self, g: Geometry, elements: &mut [u8]) -> Result<Decoder, RLNCError>
+        ensures { Started self.held g elements.old result elements.new }
     {
-        match d.decode(f, elements, body) {
-            Taken::Useful(e) => self.count(e, Answer::Ok, out),
-            Taken::NotUseful(e) => self.count(e, Answer::PieceNotUseful, out),
-            Taken::Refused(a) => self.count(d, a, out),
+        match self.held {
+            Some(d) => Ok(d),
+            None => Decoder::new(g.piece_byte_len(), g.piece_count(), elements),
         }
     }
 
@@ -105,67 +85,55 @@ impl Joining {
         requires pieces_bound { self.pieces < 18446744073709551615 }
         ensures { Counted self d answer out.old result out.new }
     {
-        let n = self.pieces + 1;
-        let repeats = if answer.number() == 8 {
-            self.repeats + 1
-        } else {
-            self.repeats
+        let pieces = self.pieces + 1;
+        let is_repeat = answer == Err(RLNCError::PieceNotUseful);
+        let repeats = self.repeats + u64::from(is_repeat);
+        let (rows, taken) = (d.useful_piece_count, d.received_piece_count);
+        let size = crate::piece_line(out, pieces, answer, rows, taken).unwrap();
+        let joining = Joining {
+            held: Some(d),
+            pieces,
+            repeats,
         };
-        let Put::Bytes(size) = crate::piece_line(
-            out,
-            n,
-            answer,
-            d.useful_piece_count,
-            d.received_piece_count,
-        ) else {
-            return Step::Refused(Answer::NoRoom);
-        };
-        Step::Line(
-            Joining {
-                held: Held::Of(d),
-                pieces: n,
-                repeats,
-            },
-            size,
-        )
+        Step { joining, size }
     }
 
     // The end of the stream: recovers the data into `data`, and puts the end line and, if there are data, their line. 21 where `out` could be too
     // small for the data that `data` has room for; too small a `data` is recovery's own answer 21, and stands in the end line.
-    pub fn finish(self, elements: &[u8], data: &mut [u8], out: &mut [u8]) -> End
+    pub fn finish(self, elements: &[u8], data: &mut [u8], out: &mut [u8]) -> Result<End, RLNCError>
         ensures { Finished self elements.now «data».old out.old result «data».new out.new }
     {
-        if out.len() <= LINE_LEN {
-            return End::Refused(Answer::NoRoom);
+        if out.len().saturating_sub(LINE_LEN) <= 2 * data.len() {
+            return Err(RLNCError::NoRoom);
         }
-        if (out.len() - LINE_LEN - 1) / 2 < data.len() {
-            return End::Refused(Answer::NoRoom);
+        match self.recover(elements, data) {
+            Ok(n) => {
+                let size = crate::data_lines(out, &data[..n], self.repeats)?;
+                Ok(End::Data(n, size))
+            }
+            Err(e) => {
+                let size = crate::end_line(out, Err(e), 0, self.repeats)?;
+                Ok(End::Alone(size))
+            }
         }
-        let held = self.held;
-        let Held::Of(d) = held else {
-            return alone(crate::end_line(out, Answer::NotAllPiecesReceivedYet, 0, self.repeats));
-        };
-        match d.get_decoded_data(elements, data) {
-            Recovered::Refused(a) => alone(crate::end_line(out, a, 0, self.repeats)),
-            Recovered::Data(n) => with_data(n, crate::data_lines(out, &data[..n], self.repeats)),
-        }
+    }
+
+    // Recovers the data: 10 where no piece has come.
+    fn recover(self, elements: &[u8], data: &mut [u8]) -> Result<usize, RLNCError>
+        ensures { Recovered self.held elements.now «data».old result «data».new }
+    {
+        let d = self.held.ok_or(RLNCError::NotAllPiecesReceivedYet)?;
+        d.get_decoded_data(elements, data)
     }
 }
 
-fn alone(text: Put) -> End
-    ensures { result ≡ alone_of text }
+// Takes a piece with the decoder: the record to go on with, and the answer.
+fn take(f: Field, d: Decoder, body: &[u8], elements: &mut [u8]) -> (Decoder, Answer)
+    ensures { Took (field_of f) d body.now elements.old result elements.new }
 {
-    match text {
-        Put::Bytes(n) => End::Alone(n),
-        Put::Refused(a) => End::Refused(a),
-    }
-}
-
-fn with_data(size: usize, text: Put) -> End
-    ensures { result ≡ with_data size text }
-{
-    match text {
-        Put::Bytes(n) => End::Data(size, n),
-        Put::Refused(a) => End::Refused(a),
+    match d.decode(f, elements, body) {
+        Ok(Taken::Useful(next)) => (next, Ok(())),
+        Ok(Taken::NotUseful(next)) => (next, Err(RLNCError::PieceNotUseful)),
+        Err(e) => (d, Err(e)),
     }
 }

@@ -2,24 +2,22 @@
 -- Assumes nothing.
 use mathlib.Core.Path.{◌≡◌, refl, subst}
 use mathlib.Core.Bool.{Bool, true, false}
-use mathlib.Core.List.{List, [], ◌∷◌}
+use mathlib.Core.List.{List}
 use Prim.Native.Nat.{ℕ, ◌+◌, ◌≤◌, ◌<◌}
 use native.Mathlib.Omega.{arith}
 use borrow.Author.Tests.{lt-ltb, le-ltb, ltb-false}
 use lib.Dec.{ltb}
-use lib.ListN.{length, get_or, drop}
-use Rattle.answers.specs.declared.Answer.{Answer}
-use Rattle.answers.specs.declared.Answer.TheVariants.{BadState, CutRecord}
+use lib.ListN.{length, drop}
+use Rattle.std.specs.Prelude.{Some, Result, Ok, Err}
+use Rattle.answers.specs.declared.RLNCError.{RLNCError}
+use Rattle.answers.specs.declared.RLNCError.TheVariants.{BadState, CutRecord}
 use Rattle.linear.specs.Choice.{pick}
 use Rattle.stream.specs.declared.Geometry.{Geometry}
 use Rattle.stream.specs.declared.Geometry.TheVariants.{Of3By2, Of16By240, Of32By480}
-use Rattle.stream.specs.declared.Seen.{Seen}
-use Rattle.stream.specs.declared.Seen.TheVariants as seen·
 use Rattle.stream.specs.declared.Record.{Record}
 use Rattle.stream.specs.declared.Record.TheVariants as record·
 use Rattle.stream.specs.Geometries.{body_of}
 use Rattle.stream.specs.Streams.{largest}
-use Rattle.stream.specs.Records.{kind_record}
 use Rattle.reader.specs.declared.Place.{Place}
 use Rattle.reader.specs.declared.Place.TheVariants as place·
 use Rattle.reader.specs.declared.Reader.{Reader}
@@ -28,44 +26,31 @@ use Rattle.reader.specs.declared.Came.TheVariants as came·
 use Rattle.reader.specs.declared.Then.{Then}
 use Rattle.reader.specs.declared.Then.TheVariants as then·
 use Rattle.reader.specs.declared.Progress.{Progress}
-use Rattle.reader.specs.declared.Progress.TheVariants.{Of, Refused}
-use Rattle.reader.specs.Reading.{longest, wanted, opened_by, place_by, then_by, on, body_brings, brings, progress, body_in}
+use Rattle.reader.specs.Reading.{longest, wanted, opened_by, place_by, then_by, brought_by, on, body_brings, brings, progress, body_in}
 
 pub body_short : (g : Geometry) → body_of g ≤ longest
 body_short Of3By2 = omega arith
 body_short Of16By240 = omega arith
 body_short Of32By480 = omega arith
 
--- ---- a kind byte, or none
-
-pub no_byte : (so_far : Seen) (bytes : List ℕ) → length bytes ≡ 0 → record·.Refused CutRecord ≡ opened_by so_far bytes
-unfolding opened_by
-no_byte so_far [] e = refl
-no_byte so_far (kind ∷ behind) e = absurd (omega arith)
-
-pub a_byte : (so_far : Seen) (bytes : List ℕ) → (length bytes ≡ 0 → ⊥) → kind_record so_far (get_or bytes 0 0) longest ≡ opened_by so_far bytes
-unfolding opened_by
-a_byte so_far [] h = absurd (h refl)
-a_byte so_far (kind ∷ behind) h = refl
-
 -- ---- a body, and what is wanted
 
 module _ (g : Geometry) (r : Reader) (bytes : List ℕ) where
-  pub body_cut : length bytes < body_of g → body_brings g r bytes ≡ on r.seen r.at came·.Cut (record·.Refused CutRecord)
+  pub body_cut : length bytes < body_of g → body_brings g r bytes ≡ Ok (on r.seen r.at came·.Cut (Err CutRecord))
   unfolding body_brings
   body_cut h = simp (lt-ltb _ _ h)
 
-  pub body_far : body_of g ≤ length bytes → largest < r.at + 1 + body_of g → body_brings g r bytes ≡ Refused BadState
+  pub body_far : body_of g ≤ length bytes → largest < r.at + 1 + body_of g → body_brings g r bytes ≡ Err BadState
   unfolding body_brings
   body_far h k = simp (le-ltb _ _ h, lt-ltb _ _ k)
 
   pub body_whole : body_of g ≤ length bytes → r.at + 1 + body_of g ≤ largest
-      → body_brings g r bytes ≡ on (seen·.Pieces g) (r.at + 1 + body_of g) (came·.Piece g) (opened_by (seen·.Pieces g) (drop (body_of g) bytes))
+      → body_brings g r bytes ≡ Ok (on (Some g) (r.at + 1 + body_of g) (came·.Piece g) (opened_by (Some g) (drop (body_of g) bytes)))
   unfolding body_brings
   body_whole h k = simp (le-ltb _ _ h, le-ltb _ _ k)
 
 module _ (r : Reader) (bytes : List ℕ) where
-  pub too_many : wanted r.place < length bytes → progress r bytes ≡ Refused BadState
+  pub too_many : wanted r.place < length bytes → progress r bytes ≡ Err BadState
   unfolding progress
   too_many h = simp (lt-ltb _ _ h)
 
@@ -84,19 +69,19 @@ pub data Brought (r : Reader) (bytes : List ℕ) (next : Reader) : Came → Type
 pub data Opened : Place → Then → Type 0 where
   body : {g : Geometry} → Opened (place·.Body g) then·.Body
   ended : Opened place·.Done then·.End
-  stopped : {a : Answer} → Opened place·.Done (then·.Stop a)
+  stopped : {a : RLNCError} → Opened place·.Done (then·.Stop a)
 
-by_record : (r : Record) → Opened (place_by r) (then_by r)
+by_record : (r : Result Record RLNCError) → Opened (place_by r) (then_by r)
 unfolding place_by then_by
-by_record (record·.Piece g) = body
-by_record record·.End = ended
-by_record (record·.Refused a) = stopped
+by_record (Ok (record·.Piece g)) = body
+by_record (Ok record·.End) = ended
+by_record (Err e) = stopped
 
-data Sound (r : Reader) (bytes : List ℕ) : Progress → Type 0 where
-  goes : {next : Reader} {came : Came} {then : Then} → Brought r bytes next came → Opened next.place then → Sound r bytes (Of next came then)
-  bad : Sound r bytes (Refused BadState)
+data Sound (r : Reader) (bytes : List ℕ) : Result Progress RLNCError → Type 0 where
+  goes : {next : Reader} {came : Came} {then : Then} → Brought r bytes next came → Opened next.place then → Sound r bytes (Ok (brought_by next came then))
+  bad : Sound r bytes (Err BadState)
 
-either : {r : Reader} {bytes : List ℕ} {x y : Progress} (t : Bool) → (t ≡ true → Sound r bytes x) → (t ≡ false → Sound r bytes y) → Sound r bytes (pick t x y)
+either : {r : Reader} {bytes : List ℕ} {x y : Result Progress RLNCError} (t : Bool) → (t ≡ true → Sound r bytes x) → (t ≡ false → Sound r bytes y) → Sound r bytes (pick t x y)
 either true f g = f refl
 either false f g = g refl
 
@@ -111,26 +96,26 @@ sound r bytes = either (ltb (wanted r.place) (length bytes)) (λ e. bad) (λ e. 
         (λ e. either (ltb largest (r.at + 1 + body_of g)) (λ f. bad) (λ f. goes (whole {g = g} (ltb-false _ _ e) refl (ltb-false _ _ f)) (by_record _)))
     at_place place·.Done = bad
 
-as_brought : {r : Reader} {bytes : List ℕ} {next : Reader} {came : Came} {then : Then} → Sound r bytes (Of next came then) → Brought r bytes next came
+as_brought : {r : Reader} {bytes : List ℕ} {next : Reader} {came : Came} {then : Then} → Sound r bytes (Ok (brought_by next came then)) → Brought r bytes next came
 as_brought (goes b o) = b
 
-as_opened : {r : Reader} {bytes : List ℕ} {next : Reader} {came : Came} {then : Then} → Sound r bytes (Of next came then) → Opened next.place then
+as_opened : {r : Reader} {bytes : List ℕ} {next : Reader} {came : Came} {then : Then} → Sound r bytes (Ok (brought_by next came then)) → Opened next.place then
 as_opened (goes b o) = o
 
-no_other : {r : Reader} {bytes : List ℕ} {a : Answer} → Sound r bytes (Refused a) → a ≡ BadState
+no_other : {r : Reader} {bytes : List ℕ} {a : RLNCError} → Sound r bytes (Err a) → a ≡ BadState
 no_other bad = refl
 
 module _ (r : Reader) (bytes : List ℕ) where
-  pub brought : {next : Reader} {came : Came} {then : Then} → progress r bytes ≡ Of next came then → Brought r bytes next came
+  pub brought : {next : Reader} {came : Came} {then : Then} → progress r bytes ≡ Ok (brought_by next came then) → Brought r bytes next came
   brought e = as_brought (subst (Sound r bytes) e (sound r bytes))
 
-  pub opens : {next : Reader} {came : Came} {then : Then} → progress r bytes ≡ Of next came then → Opened next.place then
+  pub opens : {next : Reader} {came : Came} {then : Then} → progress r bytes ≡ Ok (brought_by next came then) → Opened next.place then
   opens e = as_opened (subst (Sound r bytes) e (sound r bytes))
 
-  pub only_bad : {a : Answer} → progress r bytes ≡ Refused a → a ≡ BadState
+  pub only_bad : {a : RLNCError} → progress r bytes ≡ Err a → a ≡ BadState
   only_bad e = no_other (subst (Sound r bytes) e (sound r bytes))
 
-  pub body_came : {next : Reader} {came : Came} {then : Then} → progress r bytes ≡ Of next came then → body_in came ≤ length bytes
+  pub body_came : {next : Reader} {came : Came} {then : Then} → progress r bytes ≡ Ok (brought_by next came then) → body_in came ≤ length bytes
   unfolding body_in
   body_came e = there (brought e)
     where

@@ -1,8 +1,8 @@
 -- A program as a pump: it reads what is wanted, is fed it, and puts out the text for it, until nothing is wanted. What it says of a stream is its own;
 -- how the stream is read is the same for all.
-use Rattle.std.specs.Prelude.{◌≡◌, List, [], ◌++◌, ℕ, zero, suc, take, drop}
-use Rattle.answers.specs.declared.Answer.{Answer}
-use Rattle.answers.specs.declared.Answer.TheVariants.{Ok}
+use Rattle.std.specs.Prelude.{◌≡◌, List, [], ◌++◌, ℕ, zero, suc, take, drop, Result, Ok, Err}
+use Rattle.answers.specs.Number.{Answer}
+use Rattle.answers.specs.declared.RLNCError.{RLNCError}
 use Rattle.linear.specs.Choice.{if_zero}
 use Rattle.block.specs.Refusal.{if_ok}
 use Rattle.stream.specs.declared.Geometry.{Geometry}
@@ -14,8 +14,7 @@ use Rattle.reader.specs.declared.Came.TheVariants as came·
 use Rattle.reader.specs.declared.Then.{Then}
 use Rattle.reader.specs.declared.Then.TheVariants as then·
 use Rattle.reader.specs.declared.Progress.{Progress}
-use Rattle.reader.specs.declared.Progress.TheVariants.{Of, Refused}
-use Rattle.reader.specs.Reading.{wanted, progress}
+use Rattle.reader.specs.Reading.{wanted, brought_by, progress}
 
 -- what a program says, in bytes or otherwise, before the stream, of a piece, at the end and at a stop; what it keeps from piece to piece; and why it
 -- would not take a piece
@@ -25,7 +24,7 @@ pub record Program (A S : Type 0) : Type 0 where
   pub after : S → Geometry → List ℕ → S
   pub refusal : S → Geometry → Answer
   pub ending : S → List A
-  pub stopping : Answer → ℕ → List A
+  pub stopping : RLNCError → ℕ → List A
 
 module _ {A S : Type 0} (p : Program A S) where
   -- what it says of a stream that is known whole
@@ -46,9 +45,9 @@ module _ {A S : Type 0} (p : Program A S) where
   kept s came·.Cut bytes = s
 
   unfoldable pub declines : S → Came → Answer
-  declines s came·.Start = Ok
+  declines s came·.Start = Ok tt
   declines s (came·.Piece g) = p.refusal s g
-  declines s came·.Cut = Ok
+  declines s came·.Cut = Ok tt
 
   unfoldable pub back : S → Then → ℕ → List A
   back s then·.Body at = []
@@ -56,10 +55,10 @@ module _ {A S : Type 0} (p : Program A S) where
   back s (then·.Stop a) at = p.stopping a at
 
   -- what is said in a turn, and then; a refusal ends it
-  unfoldable pub turn_by : S → List ℕ → (Reader → S → List A) → Progress → List A
-  turn_by s bytes later (Of next came then) =
-      if_ok (declines s came) ((front s came bytes ++ back (kept s came bytes) then next.at) ++ later next (kept s came bytes)) []
-  turn_by s bytes later (Refused a) = []
+  unfoldable pub turn_by : S → List ℕ → (Reader → S → List A) → Result Progress RLNCError → List A
+  turn_by s bytes later (Ok t) =
+      if_ok (declines s t.came) ((front s t.came bytes ++ back (kept s t.came bytes) t.then t.reader.at) ++ later t.reader (kept s t.came bytes)) []
+  turn_by s bytes later (Err e) = []
 
   -- at most so many turns, with so many bytes left: what is wanted is read, until nothing is
   unfoldable pub pumped_from : ℕ → Reader → S → List ℕ → List A
@@ -72,4 +71,4 @@ module _ {A S : Type 0} (p : Program A S) where
 pub data Reads : ℕ → Reader → List ℕ → Type 0 where
   done : {r : Reader} {left : List ℕ} → wanted r.place ≡ 0 → Reads 0 r left
   turn : {n : ℕ} {r next : Reader} {came : Came} {then : Then} {left : List ℕ} → (wanted r.place ≡ 0 → ⊥)
-      → progress r (take (wanted r.place) left) ≡ Of next came then → Reads n next (drop (wanted r.place) left) → Reads (suc n) r left
+      → progress r (take (wanted r.place) left) ≡ Ok (brought_by next came then) → Reads n next (drop (wanted r.place) left) → Reads (suc n) r left

@@ -1,11 +1,10 @@
 -- The reading of a stream as it comes: what is wanted next, and what the bytes that were wanted bring.
-use Rattle.std.specs.Prelude.{List, [], ◌∷◌, ℕ, ◌+◌, ltb, length, drop}
-use Rattle.answers.specs.Number.{number_of}
-use Rattle.answers.specs.declared.Answer.TheVariants.{BadState, CutRecord}
+use Rattle.std.specs.Prelude.{List, [], ◌∷◌, ℕ, ◌+◌, ltb, length, drop, Option, Some, None, Result, Ok, Err}
+use Rattle.answers.specs.Number.{code_of}
+use Rattle.answers.specs.declared.RLNCError.{RLNCError}
+use Rattle.answers.specs.declared.RLNCError.TheVariants.{BadState, CutRecord}
 use Rattle.linear.specs.Choice.{pick}
 use Rattle.stream.specs.declared.Geometry.{Geometry}
-use Rattle.stream.specs.declared.Seen.{Seen}
-use Rattle.stream.specs.declared.Seen.TheVariants as seen·
 use Rattle.stream.specs.declared.Record.{Record}
 use Rattle.stream.specs.declared.Record.TheVariants as record·
 use Rattle.stream.specs.Geometries.{body_of}
@@ -19,14 +18,13 @@ use Rattle.reader.specs.declared.Came.TheVariants as came·
 use Rattle.reader.specs.declared.Then.{Then}
 use Rattle.reader.specs.declared.Then.TheVariants as then·
 use Rattle.reader.specs.declared.Progress.{Progress}
-use Rattle.reader.specs.declared.Progress.TheVariants.{Of, Refused}
 
 -- the longest body
 abbrev pub longest : ℕ
 longest = 512
 
 abbrev pub started : Reader
-started = record { place = place·.Start; seen = seen·.Nothing; at = 0 }
+started = record { place = place·.Start; seen = None; at = 0 }
 
 -- a kind byte; a body, with the kind byte behind it; nothing
 unfoldable pub wanted : Place → ℕ
@@ -35,43 +33,47 @@ wanted (place·.Body g) = body_of g + 1
 wanted place·.Done = 0
 
 -- the record that a kind byte opens, its body still to come; "no end record, 25"
-unfoldable pub opened_by : Seen → List ℕ → Record
-opened_by so_far [] = record·.Refused CutRecord
+unfoldable pub opened_by : Option Geometry → List ℕ → Result Record RLNCError
+opened_by so_far [] = Err CutRecord
 opened_by so_far (kind ∷ behind) = kind_record so_far kind longest
 
 -- what is wanted behind an opened record, and what is said of it
-unfoldable pub place_by : Record → Place
-place_by (record·.Piece g) = place·.Body g
-place_by record·.End = place·.Done
-place_by (record·.Refused a) = place·.Done
+unfoldable pub place_by : Result Record RLNCError → Place
+place_by (Ok (record·.Piece g)) = place·.Body g
+place_by (Ok record·.End) = place·.Done
+place_by (Err e) = place·.Done
 
-unfoldable pub then_by : Record → Then
-then_by (record·.Piece g) = then·.Body
-then_by record·.End = then·.End
-then_by (record·.Refused a) = then·.Stop a
+unfoldable pub then_by : Result Record RLNCError → Then
+then_by (Ok (record·.Piece g)) = then·.Body
+then_by (Ok record·.End) = then·.End
+then_by (Err e) = then·.Stop e
 
-abbrev pub wanting_at : Seen → ℕ → Place → Reader
+abbrev pub wanting_at : Option Geometry → ℕ → Place → Reader
 wanting_at so_far at place = record { place = place; seen = so_far; at = at }
 
+-- what came, what the record behind it is, and the reader then
+abbrev pub brought_by : Reader → Came → Then → Progress
+brought_by next came then = record { reader = next; came = came; then = then }
+
 -- a record opened at an offset, and what came before it
-abbrev pub on : Seen → ℕ → Came → Record → Progress
-on so_far at came r = Of (wanting_at so_far at (place_by r)) came (then_by r)
+abbrev pub on : Option Geometry → ℕ → Came → Result Record RLNCError → Progress
+on so_far at came r = brought_by (wanting_at so_far at (place_by r)) came (then_by r)
 
 -- a body: "a record cut short .. 25"; else the record behind it, at an offset that has to be a number of the machine
-unfoldable pub body_brings : Geometry → Reader → List ℕ → Progress
+unfoldable pub body_brings : Geometry → Reader → List ℕ → Result Progress RLNCError
 body_brings g r bytes =
-    pick (ltb (length bytes) (body_of g)) (on r.seen r.at came·.Cut (record·.Refused CutRecord))
-    (pick (ltb largest (r.at + 1 + body_of g)) (Refused BadState)
-    (on (seen·.Pieces g) (r.at + 1 + body_of g) (came·.Piece g) (opened_by (seen·.Pieces g) (drop (body_of g) bytes))))
+    pick (ltb (length bytes) (body_of g)) (Ok (on r.seen r.at came·.Cut (Err CutRecord)))
+    (pick (ltb largest (r.at + 1 + body_of g)) (Err BadState)
+    (Ok (on (Some g) (r.at + 1 + body_of g) (came·.Piece g) (opened_by (Some g) (drop (body_of g) bytes)))))
 
-unfoldable pub brings : Place → Reader → List ℕ → Progress
-brings place·.Start r bytes = on r.seen r.at came·.Start (opened_by r.seen bytes)
+unfoldable pub brings : Place → Reader → List ℕ → Result Progress RLNCError
+brings place·.Start r bytes = Ok (on r.seen r.at came·.Start (opened_by r.seen bytes))
 brings (place·.Body g) r bytes = body_brings g r bytes
-brings place·.Done r bytes = Refused BadState
+brings place·.Done r bytes = Err BadState
 
 -- 22 for more bytes than are wanted
-unfoldable pub progress : Reader → List ℕ → Progress
-progress r bytes = pick (ltb (wanted r.place) (length bytes)) (Refused BadState) (brings r.place r bytes)
+unfoldable pub progress : Reader → List ℕ → Result Progress RLNCError
+progress r bytes = pick (ltb (wanted r.place) (length bytes)) (Err BadState) (brings r.place r bytes)
 
 -- the body that stands whole at the front of the bytes
 unfoldable pub body_in : Came → ℕ
@@ -80,10 +82,10 @@ body_in (came·.Piece g) = body_of g
 body_in came·.Cut = 0
 
 -- the paper's number, and the values: the offset of the record that was opened
-unfoldable pub progress_number : Progress → ℕ
-progress_number (Of r came then) = 0
-progress_number (Refused a) = number_of a
+unfoldable pub progress_number : Result Progress RLNCError → ℕ
+progress_number (Ok p) = 0
+progress_number (Err e) = code_of e
 
-unfoldable pub progress_values : Progress → List ℕ
-progress_values (Of r came then) = r.at ∷ []
-progress_values (Refused a) = []
+unfoldable pub progress_values : Result Progress RLNCError → List ℕ
+progress_values (Ok p) = p.reader.at ∷ []
+progress_values (Err e) = []

@@ -4,18 +4,19 @@
 #![tactic(auto)]
 
 ghost use Rattle.std.specs.Prelude.{◌≡◌};
-ghost use Rattle.reader.specs.Reading.{started, wanted, opened_by, wanting_at, on, body_brings, progress};
+ghost use Rattle.reader.specs.Reading.{started, wanted, opened_by, on, body_brings, progress};
 
-use answers::Answer;
-use stream::{Geometry, Record, Seen};
+use answers::RLNCError;
+use stream::{Geometry, Record};
 
-// The longest body with the kind byte behind it: more is never wanted.
-pub const INPUT_LEN: usize = 513;
-
+// The longest body.
 const BODY_LEN: usize = 512;
 
+// The longest body with the kind byte behind it: more is never wanted.
+pub const INPUT_LEN: usize = BODY_LEN + 1;
+
 // What is wanted next: the first kind byte, the body of a piece with the kind byte behind it, or nothing.
-#[derive(Clone, Copy)]
+#[derive(Clone, Copy, PartialEq, Eq, Debug)]
 pub enum Place {
     Start,
     Body(Geometry),
@@ -24,15 +25,15 @@ pub enum Place {
 
 // The offset is that of the record that was opened last: of the piece whose body is wanted, of the end record, or of the one that stopped the
 // stream.
-#[derive(Clone, Copy)]
+#[derive(Clone, Copy, PartialEq, Eq, Debug)]
 pub struct Reader {
     pub place: Place,
-    pub seen: Seen,
+    pub seen: Option<Geometry>,
     pub at: u64,
 }
 
 // What the bytes have at their front: no more than the start of the stream, a piece's whole body, or one that was cut short.
-#[derive(Clone, Copy)]
+#[derive(Clone, Copy, PartialEq, Eq, Debug)]
 pub enum Came {
     Start,
     Piece(Geometry),
@@ -40,17 +41,19 @@ pub enum Came {
 }
 
 // What the record behind it is: a piece, whose body is still to come; the end; or one that stops the stream.
-#[derive(Clone, Copy)]
+#[derive(Clone, Copy, PartialEq, Eq, Debug)]
 pub enum Then {
     Body,
     End,
-    Stop(Answer),
+    Stop(RLNCError),
 }
 
-#[derive(Clone, Copy)]
-pub enum Progress {
-    Of(Reader, Came, Then),
-    Refused(Answer),
+// What the bytes that were wanted brought, and the reader behind them.
+#[derive(Clone, Copy, PartialEq, Eq, Debug)]
+pub struct Progress {
+    pub reader: Reader,
+    pub came: Came,
+    pub then: Then,
 }
 
 impl Reader {
@@ -59,7 +62,7 @@ impl Reader {
     {
         Reader {
             place: Place::Start,
-            seen: Seen::Nothing,
+            seen: None,
             at: 0,
         }
     }
@@ -69,8 +72,7 @@ impl Reader {
     pub fn wants(self) -> usize
         ensures { result ≡ wanted self.place }
     {
-        let place = self.place;
-        match place {
+        match self.place {
             Place::Start => 1,
             Place::Body(g) => g.body_len() + 1,
             Place::Done => 0,
@@ -80,75 +82,59 @@ impl Reader {
     // Takes the bytes that are wanted, or fewer where the input has ended. 22 where there are more or none are wanted, and where the offset of the
     // next record is past the largest number.
     #[tactic(auto, using(crate::proofs::Reading::too_many, crate::proofs::Reading::place_decides), unfolding(crate::specs::Reading::brings))]
-    pub fn read(self, input: &[u8]) -> Progress
+    pub fn read(self, input: &[u8]) -> Result<Progress, RLNCError>
         ensures { result ≡ progress self input.now }
     {
         if self.wants() < input.len() {
-            return Progress::Refused(Answer::BadState);
+            return Err(RLNCError::BadState);
         }
-        let place = self.place;
-        let seen = self.seen;
-        match place {
-            Place::Start => self.next(Came::Start, opened(seen, input)),
+        match self.place {
+            Place::Start => Ok(self.next(Came::Start, opened(self.seen, input))),
             Place::Body(g) => self.body(g, input),
-            Place::Done => Progress::Refused(Answer::BadState),
+            Place::Done => Err(RLNCError::BadState),
         }
     }
 
     // The body of a piece, and the kind byte behind it.
     #[tactic(auto, using(crate::proofs::Reading::body_cut, crate::proofs::Reading::body_far))]
-    fn body(self, g: Geometry, input: &[u8]) -> Progress
+    fn body(self, g: Geometry, input: &[u8]) -> Result<Progress, RLNCError>
         ensures { result ≡ body_brings g self input.now }
     {
         let n = g.body_len();
-        if input.len() < n {
-            return self.next(Came::Cut, Record::Refused(Answer::CutRecord));
-        }
-        let end = n as u64 + 1;
-        let at = self.at;
-        if u64::MAX - at < end {
-            return Progress::Refused(Answer::BadState);
-        }
-        let seen = Seen::Pieces(g);
-        let behind = Reader {
-            place: Place::Start,
-            seen,
-            at: at + end,
+        let Some(rest) = input.get(n..) else {
+            return Ok(self.next(Came::Cut, Err(RLNCError::CutRecord)));
         };
-        behind.next(Came::Piece(g), opened(seen, &input[n..]))
+        let end = n as u64 + 1;
+        let at = self.at.checked_add(end).ok_or(RLNCError::BadState)?;
+        let seen = Some(g);
+        Ok(Reader { seen, at, ..self }.next(Came::Piece(g), opened(seen, rest)))
     }
 
     // A record was opened at the offset.
     #[tactic(auto, unfolding(crate::specs::Reading::place_by, crate::specs::Reading::then_by))]
-    fn next(self, came: Came, record: Record) -> Progress
-        ensures { result ≡ on self.seen self.at came «record» }
+    fn next(self, came: Came, opened: Result<Record, RLNCError>) -> Progress
+        ensures { result ≡ on self.seen self.at came opened }
     {
-        match record {
-            Record::Piece(g) => Progress::Of(self.wanting(Place::Body(g)), came, Then::Body),
-            Record::End => Progress::Of(self.wanting(Place::Done), came, Then::End),
-            Record::Refused(a) => Progress::Of(self.wanting(Place::Done), came, Then::Stop(a)),
-        }
-    }
-
-    fn wanting(self, place: Place) -> Reader
-        ensures { result ≡ wanting_at self.seen self.at place }
-    {
-        let seen = self.seen;
-        Reader {
-            place,
-            seen,
-            at: self.at,
+        let (place, then) = match opened {
+            Ok(Record::Piece(g)) => (Place::Body(g), Then::Body),
+            Ok(Record::End) => (Place::Done, Then::End),
+            Err(e) => (Place::Done, Then::Stop(e)),
+        };
+        Progress {
+            reader: Reader { place, ..self },
+            came,
+            then,
         }
     }
 }
 
 // The record that a kind byte opens, its body still to come; 25 where the input has ended.
-#[tactic(auto, using(crate::proofs::Reading::no_byte, crate::proofs::Reading::a_byte))]
-fn opened(so_far: Seen, input: &[u8]) -> Record
+#[tactic(auto, unfolding(crate::specs::Reading::opened_by))]
+fn opened(so_far: Option<Geometry>, input: &[u8]) -> Result<Record, RLNCError>
     ensures { result ≡ opened_by so_far input.now }
 {
-    if input.len() == 0 {
-        return Record::Refused(Answer::CutRecord);
+    match input {
+        [kind, ..] => stream::read_kind(so_far, *kind, BODY_LEN),
+        [] => Err(RLNCError::CutRecord),
     }
-    stream::read_kind(so_far, input[0], BODY_LEN)
 }

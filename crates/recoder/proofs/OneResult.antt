@@ -3,13 +3,14 @@
 use mathlib.Core.Path.{◌≡◌, sym, ◌∙◌}
 use mathlib.Core.List.{List}
 use Prim.Native.Nat.{ℕ}
-use Rattle.answers.specs.declared.Answer.{Answer}
+use Rattle.std.specs.Prelude.{Result}
+use Rattle.answers.specs.Number.{Answer}
+use Rattle.answers.specs.declared.RLNCError.{RLNCError}
 use Rattle.galois.specs.FieldLaws.{FieldLaws}
 use Rattle.recoder.specs.declared.Recoder.{Recoder}
-use Rattle.recoder.specs.declared.Made.{Made}
 use Rattle.recoder.specs.Entries.{NewRecoder, Recoded}
 
-pub one_new_recoder : {n width k : ℕ} {r r' : Made} → NewRecoder n width k r → NewRecoder n width k r' → r ≡ r'
+pub one_new_recoder : {n width k : ℕ} {r r' : Result Recoder RLNCError} → NewRecoder n width k r → NewRecoder n width k r' → r ≡ r'
 one_new_recoder x y = x.result ∙ sym y.result
 
 pub one_recoded : {𝓕 : FieldLaws} {d : Recoder} {pieces vector out : List ℕ} {r r' : Answer} {last last' : List ℕ}

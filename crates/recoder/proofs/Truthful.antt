@@ -5,7 +5,8 @@ use mathlib.Core.List.{List, []}
 use Prim.Native.Nat.{ℕ, ◌+◌, ◌-◌}
 use native.Mathlib.Omega.{arith}
 use lib.ListN.{length}
-use Rattle.answers.specs.declared.Answer.TheVariants.{Ok, BadState}
+use Rattle.std.specs.Prelude.{Ok, Err}
+use Rattle.answers.specs.declared.RLNCError.TheVariants.{BadState}
 use Rattle.galois.specs.FieldLaws.{FieldLaws}
 use Rattle.linear.specs.All.{All, Bytes}
 use Rattle.linear.specs.Buffer.{rows_of}
@@ -24,10 +25,10 @@ use Rattle.recoder.proofs.State.{Held, held}
 abbrev pub payload_of : Recoder → ℕ
 payload_of d = d.full_coded_piece_byte_len - d.num_pieces_coded_together
 
-module _ (𝓕 : FieldLaws) (d : Recoder) (pieces vector out last : List ℕ) (c : Recoded 𝓕 d pieces vector out Ok last) where
+module _ (𝓕 : FieldLaws) (d : Recoder) (pieces vector out last : List ℕ) (c : Recoded 𝓕 d pieces vector out (Ok tt) last) where
   good : Held d (length pieces)
   unfolding recode_refusal
-  good = held d (length pieces) (passes (bad_state d (length pieces)) BadState _ (omega arith) (sym c.result)).0
+  good = held d (length pieces) (passes (bad_state d (length pieces)) (Err BadState) _ (omega arith) (sym c.result)).0
 
   width : d.full_coded_piece_byte_len ≡ d.num_pieces_coded_together + payload_of d
   width = omega (arith, good.within_limits.payload)

@@ -1,18 +1,38 @@
 // Calls of the decoder, which is kept beside its matrix, and of its stored form.
-use super::{Call, say};
-use decoder::{Complete, Decoder, Made, ReceivedPieceCount, Recovered, Taken, UsefulPieceCount};
+use super::{Call, Lent, say};
+use answers::RLNCError;
+use decoder::{Decoder, ReceivedPieceCount, Taken, UsefulPieceCount};
 use field::Field;
-use stored::{Loaded, Saved};
 
-pub(crate) fn call(
-    rt: &HostRuntime,
-    c: Call,
-    d: Decoder,
-    elements: &mut [u8],
-    a: &mut [u8],
-    b: &mut [u8],
-) -> Decoder {
-    let next = asked(rt, c, d, elements, a, b);
+// The answer is said, and the record is the one to keep.
+pub(crate) fn call(rt: &HostRuntime, c: Call, d: Decoder, lent: Lent<'_>) -> Decoder {
+    let Lent {
+        kept: elements,
+        a,
+        b,
+    } = lent;
+    let next = match c.op {
+        0x31 => say::kept(rt, d, Decoder::new(c.p, c.q, elements)),
+        0x32 => {
+            say::number(rt, 0);
+            Decoder {
+                required_piece_count: c.p,
+                piece_byte_len: c.q,
+                useful_piece_count: UsefulPieceCount(c.r),
+                received_piece_count: ReceivedPieceCount(c.s),
+            }
+        }
+        0x33 => taken(rt, d, d.decode(Field::Fips197, elements, a)),
+        0x34 => {
+            say::length(rt, d.get_decoded_data(elements, b));
+            d
+        }
+        0x35 => {
+            say::length(rt, stored::save(d, elements, b));
+            d
+        }
+        _ => say::kept(rt, d, stored::load(a, elements)),
+    };
     counts(rt, next);
     say::buffers(rt, elements, a, b);
     next
@@ -28,111 +48,23 @@ fn counts(rt: &HostRuntime, d: Decoder) {
     complete(rt, d.is_already_decoded());
 }
 
-// The answer is said, and the record is the one to keep.
-fn asked(
-    rt: &HostRuntime,
-    c: Call,
-    d: Decoder,
-    elements: &mut [u8],
-    a: &[u8],
-    b: &mut [u8],
-) -> Decoder {
-    let op = c.op;
-    match op {
-        0x31 => made(rt, d, Decoder::new(c.p, c.q, elements)),
-        0x32 => {
-            say::number(rt, 0);
-            Decoder {
-                required_piece_count: c.p,
-                piece_byte_len: c.q,
-                useful_piece_count: UsefulPieceCount(c.r),
-                received_piece_count: ReceivedPieceCount(c.s),
-            }
-        }
-        0x33 => taken(rt, d, d.decode(Field::Fips197, elements, a)),
-        0x34 => {
-            recovered(rt, d.get_decoded_data(elements, b));
+fn taken(rt: &HostRuntime, before: Decoder, taken: Result<Taken, RLNCError>) -> Decoder {
+    match taken {
+        Ok(Taken::Useful(d)) => say::kept(rt, before, Ok(d)),
+        Ok(Taken::NotUseful(d)) => {
+            say::answer(rt, Err(RLNCError::PieceNotUseful));
             d
         }
-        0x35 => {
-            saved(rt, stored::save(d, elements, b));
-            d
-        }
-        _ => loaded(rt, d, stored::load(a, elements)),
+        Err(e) => say::kept(rt, before, Err(e)),
     }
 }
 
-// A refusal leaves the record that was there.
-fn made(rt: &HostRuntime, before: Decoder, m: Made) -> Decoder {
-    match m {
-        Made::Of(d) => {
-            say::number(rt, 0);
-            d
-        }
-        Made::Refused(a) => {
-            say::answer(rt, a);
-            before
-        }
-    }
-}
-
-fn taken(rt: &HostRuntime, before: Decoder, t: Taken) -> Decoder {
-    match t {
-        Taken::Useful(d) => {
-            say::number(rt, 0);
-            d
-        }
-        Taken::NotUseful(d) => {
-            say::number(rt, 8);
-            d
-        }
-        Taken::Refused(a) => {
-            say::answer(rt, a);
-            before
-        }
-    }
-}
-
-// The answer and the length.
-fn recovered(rt: &HostRuntime, r: Recovered) {
-    match r {
-        Recovered::Data(n) => {
-            say::number(rt, 0);
-            say::number(rt, n);
-        }
-        Recovered::Refused(a) => say::answer(rt, a),
-    }
-}
-
-fn saved(rt: &HostRuntime, s: Saved) {
-    match s {
-        Saved::Bytes(n) => {
-            say::number(rt, 0);
-            say::number(rt, n);
-        }
-        Saved::Refused(a) => say::answer(rt, a),
-    }
-}
-
-fn loaded(rt: &HostRuntime, before: Decoder, l: Loaded) -> Decoder {
-    match l {
-        Loaded::Of(d) => {
-            say::number(rt, 0);
-            d
-        }
-        Loaded::Refused(a) => {
-            say::answer(rt, a);
-            before
-        }
-    }
-}
-
-fn complete(rt: &HostRuntime, c: Complete) {
-    match c {
-        Complete::Of(done) => say::number(rt, if done { 1 } else { 0 }),
-        Complete::Refused(a) => {
+fn complete(rt: &HostRuntime, completed: Result<bool, RLNCError>) {
+    match completed {
+        Ok(done) => say::number(rt, usize::from(done)),
+        Err(e) => {
             say::number(rt, 2);
-            say::answer(rt, a);
+            say::answer(rt, Err(e));
         }
     }
 }

@@ -3,7 +3,7 @@
 // has the format).
 #![tactic(auto)]
 
-ghost use Rattle.std.specs.Prelude.{◌+◌, ◌≤◌, length};
+ghost use Rattle.std.specs.Prelude.{◌+◌, ◌≤◌};
 
 use decoder::{Decoder, ReceivedPieceCount, UsefulPieceCount};
 use encoder::Encoder;
@@ -49,36 +49,35 @@ struct Kept {
     decoder: Decoder,
 }
 
-#[derive(Clone, Copy)]
-enum After {
-    Next(Kept),
-    Done,
+// The block, the pieces and the matrix, and room for the two slices of a call.
+#[derive(Drop)]
+struct Buffers {
+    block: [u8; BUFFER_LEN],
+    pieces: [u8; BUFFER_LEN],
+    elements: [u8; MATRIX_LEN],
+    a: [u8; BUFFER_LEN],
+    b: [u8; BUFFER_LEN],
 }
 
-fn wide(b: u8) -> usize
-    ensures { result ≤ 255 }
-{
-    b as usize
-}
-
-fn lesser(a: usize, b: usize) -> usize
-    ensures { result ≤ b }
-{
-    if a < b { a } else { b }
+// What a call is lent: the front of a kept buffer, and its two slices.
+#[derive(Drop)]
+struct Lent<'a> {
+    kept: &'a mut [u8],
+    a: &'a mut [u8],
+    b: &'a mut [u8],
 }
 
 // The number in two bytes, and in four, from `at` on, high byte first.
 fn two(head: &[u8; HEAD_LEN], at: usize) -> usize
-    requires { at + 2 ≤ 31 }
-    ensures { result ≤ 65535 }
+    requires { at + 2 ≤ HEAD_LEN }
 {
-    wide(head[at]) * 256 + wide(head[at + 1])
+    usize::from(u16::from_be_bytes([head[at], head[at + 1]]))
 }
 
 fn four(head: &[u8; HEAD_LEN], at: usize) -> usize
-    requires { at + 4 ≤ 31 }
+    requires { at + 4 ≤ HEAD_LEN }
 {
-    two(head, at) * 65536 + two(head, at + 2)
+    u32::from_be_bytes([head[at], head[at + 1], head[at + 2], head[at + 3]]) as usize
 }
 
 fn call_in(head: &[u8; HEAD_LEN]) -> Call {
@@ -120,159 +119,78 @@ fn nothing() -> Kept {
     }
 }
 
-// Fills the buffer, or reads to the end of the input: how many bytes came. A read that fails counts as the end.
-fn fill(rt: &HostRuntime, buf: &mut [u8]) -> usize
-    ensures { result ≤ length buf.new }
-{
-    let mut done = 0;
-    while done < buf.len() {
-        let n = match rt.stdin().read(&mut buf[done..]) {
-            Ok(n) => n,
-            Err(_) => 0,
-        };
-        if n == 0 {
-            return done;
-        }
-        done += n;
-    }
-    done
+// So many bytes at the front of a buffer.
+fn front(buf: &mut [u8], n: usize) -> &mut [u8] {
+    let n = n.min(buf.len());
+    &mut buf[..n]
 }
 
-// The front of a kept buffer written anew, as the call says. How much of the buffer is lent.
-fn loaded(rt: &HostRuntime, c: Call, kept: &mut [u8]) -> usize
-    ensures { result ≤ length kept.new }
-{
-    let n = lesser(c.load, kept.len());
-    fill(rt, &mut kept[..n]);
-    lesser(c.lent, kept.len())
+// Those bytes, read from the script. Where it ends before, or cannot be read, the others stay.
+fn filled<'a>(rt: &HostRuntime, buf: &'a mut [u8], n: usize) -> &'a mut [u8] {
+    let part = front(buf, n);
+    let _whole = rt.stdin().read_exact(part).is_ok();
+    part
 }
 
-fn encoder_call(
-    rt: &HostRuntime,
-    c: Call,
-    e: Encoder,
-    block: &mut [u8],
-    a: &mut [u8],
-    b: &mut [u8],
-) -> Encoder {
-    let n = loaded(rt, c, block);
-    encoding::call(rt, c, e, &mut block[..n], a, b)
+// The front of a kept buffer that is lent, written anew before as the call says.
+fn loaded<'a>(rt: &HostRuntime, c: Call, kept: &'a mut [u8]) -> &'a mut [u8] {
+    filled(rt, kept, c.load);
+    front(kept, c.lent)
 }
 
-fn recoder_call(
-    rt: &HostRuntime,
-    c: Call,
-    r: Recoder,
-    pieces: &mut [u8],
-    a: &mut [u8],
-    b: &mut [u8],
-) -> Recoder {
-    let n = loaded(rt, c, pieces);
-    recoding::call(rt, c, r, &mut pieces[..n], a, b)
-}
-
-fn decoder_call(
-    rt: &HostRuntime,
-    c: Call,
-    d: Decoder,
-    elements: &mut [u8],
-    a: &mut [u8],
-    b: &mut [u8],
-) -> Decoder {
-    let n = loaded(rt, c, elements);
-    decoding::call(rt, c, d, &mut elements[..n], a, b)
-}
-
-// One call, whose slices are a and b. The high digit of its kind says whom it asks.
-fn one(
-    rt: &HostRuntime,
-    c: Call,
-    k: Kept,
-    a: &mut [u8],
-    b: &mut [u8],
-    block: &mut [u8],
-    pieces: &mut [u8],
-    elements: &mut [u8],
-) -> Kept {
-    fill(rt, a);
-    fill(rt, b);
-    let encoder = k.encoder;
-    let recoder = k.recoder;
-    let decoder = k.decoder;
+// One call. The high digit of its kind says whom it asks.
+fn one(rt: &HostRuntime, c: Call, k: Kept, buffers: &mut Buffers) -> Kept {
+    let a = filled(rt, &mut buffers.a, c.a);
+    let b = filled(rt, &mut buffers.b, c.b);
     match c.op / 16 {
         0 => {
             plain::call(rt, c, a, b);
             k
         }
-        1 => Kept {
-            encoder: encoder_call(rt, c, encoder, block, a, b),
-            recoder,
-            decoder,
-        },
-        2 => Kept {
-            encoder,
-            recoder: recoder_call(rt, c, recoder, pieces, a, b),
-            decoder,
-        },
-        3 => Kept {
-            encoder,
-            recoder,
-            decoder: decoder_call(rt, c, decoder, elements, a, b),
-        },
+        1 => {
+            let kept = loaded(rt, c, &mut buffers.block);
+            let encoder = encoding::call(rt, c, k.encoder, Lent { kept, a, b });
+            Kept { encoder, ..k }
+        }
+        2 => {
+            let kept = loaded(rt, c, &mut buffers.pieces);
+            let recoder = recoding::call(rt, c, k.recoder, Lent { kept, a, b });
+            Kept { recoder, ..k }
+        }
+        3 => {
+            let kept = loaded(rt, c, &mut buffers.elements);
+            let decoder = decoding::call(rt, c, k.decoder, Lent { kept, a, b });
+            Kept { decoder, ..k }
+        }
         _ => nothing(),
     }
 }
 
-// The next call of the script, which is the n-th.
-fn turn(
-    rt: &HostRuntime,
-    n: u64,
-    k: Kept,
-    a: &mut [u8],
-    b: &mut [u8],
-    block: &mut [u8],
-    pieces: &mut [u8],
-    elements: &mut [u8],
-) -> After {
+// The next call of the script, which is the n-th; none at its end.
+fn turn(rt: &HostRuntime, n: u64, k: Kept, buffers: &mut Buffers) -> Option<Kept> {
     let mut head = [0u8; HEAD_LEN];
-    if fill(rt, &mut head) < HEAD_LEN {
-        return After::Done;
-    }
-    let c = call_in(&head);
-    let i = lesser(c.a, a.len());
-    let j = lesser(c.b, b.len());
+    rt.stdin().read_exact(&mut head).ok()?;
     let _written = print!(rt; "{n}").is_ok();
-    let next = one(rt, c, k, &mut a[..i], &mut b[..j], block, pieces, elements);
+    let next = one(rt, call_in(&head), k, buffers);
     say::put(rt, b"\n");
-    After::Next(next)
+    Some(next)
 }
 
 // The calls one after the other. A proved loop has to end, and nothing says that an input does: so the calls are counted up to a number
 // that no input reaches.
-fn run(
-    rt: &HostRuntime,
-    a: &mut [u8],
-    b: &mut [u8],
-    block: &mut [u8],
-    pieces: &mut [u8],
-    elements: &mut [u8],
-) {
+fn main(rt: HostRuntime) {
+    let mut buffers = Buffers {
+        block: [0; BUFFER_LEN],
+        pieces: [0; BUFFER_LEN],
+        elements: [0; MATRIX_LEN],
+        a: [0; BUFFER_LEN],
+        b: [0; BUFFER_LEN],
+    };
     let mut kept = nothing();
-    let mut n = 1;
-    while n < u64::MAX {
-        let After::Next(next) = turn(rt, n, kept, a, b, block, pieces, elements) else {
+    for n in 1..u64::MAX {
+        let Some(next) = turn(&rt, n, kept, &mut buffers) else {
             return;
         };
         kept = next;
-        n += 1;
     }
-}
-
-fn main(rt: HostRuntime) {
-    let mut a = [0u8; BUFFER_LEN];
-    let mut b = [0u8; BUFFER_LEN];
-    let mut block = [0u8; BUFFER_LEN];
-    let mut pieces = [0u8; BUFFER_LEN];
-    let mut elements = [0u8; MATRIX_LEN];
-    run(&rt, &mut a, &mut b, &mut block, &mut pieces, &mut elements);
 }

@@ -1,12 +1,12 @@
 // Calls that keep nothing: the field, the row helpers, and the rules on a matrix that the script gives.
 use super::{Call, say};
-use decoder_matrix::{DecoderMatrix, Matrix};
+use answers::RLNCError;
+use decoder_matrix::DecoderMatrix;
 use field::Field;
-use galois::Quotient;
 use gf256::Gf256;
 use rows::Parts;
 
-pub(crate) fn call(rt: &HostRuntime, c: Call, a: &mut [u8], b: &mut [u8]) {
+pub(crate) fn call(rt: &HostRuntime, c: Call, a: &mut [u8], b: &[u8]) {
     asked(rt, c, a, b);
     say::bytes(rt, a);
     say::bytes(rt, b);
@@ -14,8 +14,7 @@ pub(crate) fn call(rt: &HostRuntime, c: Call, a: &mut [u8], b: &mut [u8]) {
 
 // What is asked, and what was answered is said.
 fn asked(rt: &HostRuntime, c: Call, a: &mut [u8], b: &[u8]) {
-    let op = c.op;
-    match op {
+    match c.op {
         1 => field(rt, low(c.p)),
         2 => {
             rows::inplace_mul_vec_by_scalar(Field::Fips197, a, low(c.p));
@@ -35,7 +34,7 @@ fn asked(rt: &HostRuntime, c: Call, a: &mut [u8], b: &[u8]) {
 }
 
 fn low(n: usize) -> u8 {
-    (n % 256) as u8
+    (n & 0xff) as u8
 }
 
 fn hex(rt: &HostRuntime, n: u8) {
@@ -45,31 +44,21 @@ fn hex(rt: &HostRuntime, n: u8) {
 // The products of a byte and every byte, its quotients by every byte, and its inverse.
 fn field(rt: &HostRuntime, x: u8) {
     say::put(rt, b" ");
-    products(rt, x);
+    for y in 0..=u8::MAX {
+        hex(rt, Gf256::mul_const(x, y));
+    }
     say::put(rt, b" ");
-    quotients(rt, Gf256::new(x));
+    for y in 0..=u8::MAX {
+        quotient(rt, Gf256::new(x) / Gf256::new(y));
+    }
     say::put(rt, b" ");
     quotient(rt, Gf256::new(x).inv());
 }
 
-fn products(rt: &HostRuntime, x: u8) {
-    for y in 0..256 {
-        hex(rt, Gf256::mul_const(x, low(y)));
-    }
-}
-
-fn quotients(rt: &HostRuntime, x: Gf256) {
-    for y in 0..256 {
-        quotient(rt, x.div(Gf256::new(low(y))));
-    }
-}
-
-fn quotient(rt: &HostRuntime, q: Quotient) {
+fn quotient(rt: &HostRuntime, q: Option<u8>) {
     match q {
-        Quotient::Byte(v) => hex(rt, v),
-        Quotient::ByZero => {
-            say::put(rt, b"--");
-        }
+        Some(v) => hex(rt, v),
+        None => say::put(rt, b"--"),
     }
 }
 
@@ -91,14 +80,14 @@ fn of(c: Call) -> DecoderMatrix {
     }
 }
 
-fn matrix(rt: &HostRuntime, m: Matrix) {
-    match m {
-        Matrix::Of(now) => {
+fn matrix(rt: &HostRuntime, made: Result<DecoderMatrix, RLNCError>) {
+    match made {
+        Ok(now) => {
             say::number(rt, 0);
             say::number(rt, now.num_pieces_coded_together);
             say::number(rt, now.rows);
             say::number(rt, now.cols);
         }
-        Matrix::Refused(a) => say::answer(rt, a),
+        Err(e) => say::answer(rt, Err(e)),
     }
 }

@@ -1,10 +1,9 @@
 // What is printed of a call, each part behind a space.
-ghost use Rattle.std.specs.Prelude.{◌≤◌};
-
-use super::wide;
-use answers::Answer;
-use block::Count;
+use answers::{Answer, RLNCError};
 use std::io::Print;
+
+// How many bytes are put into digits at a time.
+const CHUNK_LEN: usize = 2048;
 
 // To standard output: where that cannot be written to, the comparison finds it.
 pub(crate) fn put(rt: &HostRuntime, part: &[u8]) {
@@ -16,53 +15,54 @@ pub(crate) fn number(rt: &HostRuntime, n: usize) {
 }
 
 pub(crate) fn answer(rt: &HostRuntime, a: Answer) {
-    number(rt, wide(a.number()));
+    number(rt, usize::from(answers::number(a)));
 }
 
-// A count, or the number that refuses it.
-pub(crate) fn count(rt: &HostRuntime, c: Count) {
-    match c {
-        Count::Of(n) => number(rt, n),
-        Count::Refused(a) => {
-            put(rt, b" no");
-            answer(rt, a);
+// The answer, and the record to keep: a refusal leaves the one that was there.
+pub(crate) fn kept<T: Copy>(rt: &HostRuntime, before: T, made: Result<T, RLNCError>) -> T {
+    match made {
+        Ok(next) => {
+            answer(rt, Ok(()));
+            next
+        }
+        Err(e) => {
+            answer(rt, Err(e));
+            before
         }
     }
 }
 
-// The digit of a number below 16.
-fn digit(n: u8) -> u8 {
-    match n {
-        0..=9 => b'0' + n,
-        10..=15 => b'a' + (n - 10),
-        _ => b'?',
+// The answer, and how many bytes there are.
+pub(crate) fn length(rt: &HostRuntime, made: Result<usize, RLNCError>) {
+    match made {
+        Ok(n) => {
+            answer(rt, Ok(()));
+            number(rt, n);
+        }
+        Err(e) => answer(rt, Err(e)),
     }
 }
 
-// Room for two digits: the text is written out where there is less. How much of it is used then.
-fn with_room(rt: &HostRuntime, text: &[u8; 4096], used: usize) -> usize
-    requires { used ≤ 4096 }
-    ensures { result ≤ 4094 }
-{
-    if 4094 < used {
-        put(rt, text);
-        return 0;
+// A count, or the number that refuses it.
+pub(crate) fn count(rt: &HostRuntime, counted: Result<usize, RLNCError>) {
+    match counted {
+        Ok(n) => number(rt, n),
+        Err(e) => {
+            put(rt, b" no");
+            answer(rt, Err(e));
+        }
     }
-    used
 }
 
 // Every byte, in hexadecimal.
 pub(crate) fn bytes(rt: &HostRuntime, part: &[u8]) {
     put(rt, b" .");
-    let mut text = [0u8; 4096];
-    let mut used = 0;
-    for i in 0..part.len() {
-        used = with_room(rt, &text, used);
-        text[used] = digit(part[i] / 16);
-        text[used + 1] = digit(part[i] % 16);
-        used += 2;
+    let mut text = [0u8; 2 * CHUNK_LEN];
+    for chunk in part.chunks(CHUNK_LEN) {
+        let digits = &mut text[..2 * chunk.len()];
+        hex::encode_to_slice(chunk, digits).unwrap();
+        put(rt, digits);
     }
-    put(rt, &text[..used]);
 }
 
 // The lent part of a kept buffer, and the slices of the call.

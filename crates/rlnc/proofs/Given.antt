@@ -1,27 +1,51 @@
--- A result that is known by its case, handed out in two parts.
+-- What a refusal chooses, and a part of it, handed out as its number and its value.
 -- Assumes nothing.
-use mathlib.Core.Path.{◌≡◌, sym, ap, ◌∙◌, subst}
+use mathlib.Core.Path.{◌≡◌, refl, ap, ◌∙◌, subst}
 use mathlib.Core.Bool.{Bool}
 use Prim.Native.Nat.{ℕ}
-use Rattle.galois.specs.declared.Quotient.{Quotient}
-use Rattle.block.specs.declared.Count.{Count}
+use Rattle.std.specs.Prelude.{Result, Ok, Err, IsOkAnd, MatchResult}
+use Rattle.std.specs.Result.{result_unwrap_or}
+use Rattle.answers.specs.Number.{Answer, number_of}
+use Rattle.answers.specs.declared.RLNCError.{RLNCError}
+use Rattle.block.specs.Refusal.{if_ok, answered}
 use Rattle.block.specs.Counts.{count_number}
-use Rattle.decoder.specs.declared.Complete.{Complete}
 use Rattle.decoder.specs.Answers.{complete_number}
-use Rattle.rlnc.specs.Given.{has_byte, byte_or, QuotientGiven, count_or, CountGiven, complete_or, CompleteGiven}
+use Rattle.rlnc.specs.Given.{number_in, Given}
 
-pub byte_gave : {q : Quotient} {before : ℕ} {r : Bool} (c : Quotient) → q ≡ c → r ≡ has_byte c → QuotientGiven q before r (byte_or before c)
-byte_gave {before} c e t = record { told = t ∙ ap has_byte (sym e); stored = ap (byte_or before) (sym e) }
+-- what `map` leaves of a result that a refusal chooses
+pub part_of : {A B : Type 0} {P : A → B → Type 0} (part : A → B) (a : Answer) (x : A) {m : Result A RLNCError} {c : Result B RLNCError}
+    → ((y : A) (z : B) → P y z → z ≡ part y) → m ≡ answered a x → MatchResult m (λ y. IsOkAnd c (P y)) (λ e. c ≡ Err e) → c ≡ answered a (part x)
+part_of {A} {B} {P} part a x {c} h e s = go a c (subst (λ (w : Result A RLNCError). MatchResult w (λ y. IsOkAnd c (P y)) (λ f. c ≡ Err f)) e s)
+  where
+    go : (a : Answer) (c : Result B RLNCError) → MatchResult (answered a x) (λ y. IsOkAnd c (P y)) (λ e. c ≡ Err e) → c ≡ answered a (part x)
+    go (Ok z) (Ok y) t = ap Ok (h x y t)
+    go (Ok z) (Err y) t = absurd t
+    go (Err f) c t = t
 
-pub byte_given : {q q' : Quotient} {before : ℕ} {r : Bool} {after : ℕ} → q ≡ q' → QuotientGiven q before r after → QuotientGiven q' before r after
-byte_given {before} {r} {after} e g = subst (λ (q : Quotient). QuotientGiven q before r after) e g
+-- its number is that of the refusal, and its value there only where that is Ok
+number_is : {A : Type 0} (a : Answer) (x : A) → number_in (answered a x) ≡ number_of a
+number_is (Ok z) x = refl
+number_is (Err e) x = refl
 
-pub count_gave : {n : Count} {before r : ℕ} (c : Count) → n ≡ c → r ≡ count_number c → CountGiven n before r (count_or before c)
-count_gave {before} c e t = record { number = t ∙ ap count_number (sym e); stored = ap (count_or before) (sym e) }
+value_is : {A : Type 0} (a : Answer) (x before : A) → result_unwrap_or (answered a x) before ≡ if_ok a x before
+value_is (Ok z) x before = refl
+value_is (Err e) x before = refl
 
-pub count_given : {n n' : Count} {before r after : ℕ} → n ≡ n' → CountGiven n before r after → CountGiven n' before r after
-count_given {before} {r} {after} e g = subst (λ (n : Count). CountGiven n before r after) e g
+module _ (a : Answer) (n : ℕ) {before r after : ℕ} {c : Result ℕ RLNCError} (e : c ≡ answered a n) (g : Given c before r after) where
+  pub given_number : r ≡ number_of a
+  given_number = g.number ∙ ap number_in e ∙ number_is a n
 
-pub complete_gave : {b d : Complete} {before : Bool} {r : ℕ} (c : Complete) → b ≡ d → b ≡ c → r ≡ complete_number c
-    → CompleteGiven d before r (complete_or before c)
-complete_gave {before} c o e t = record { number = t ∙ ap complete_number (sym e ∙ o); stored = ap (complete_or before) (sym e ∙ o) }
+  pub given_value : after ≡ if_ok a n before
+  given_value = g.stored ∙ ap (λ (x : Result ℕ RLNCError). result_unwrap_or x before) e ∙ value_is a n before
+
+-- ---- the number that is handed out is the paper's, of a count and of whether a decoder is complete
+
+pub count_numbered : (c : Result ℕ RLNCError) → number_in c ≡ count_number c
+unfolding count_number
+count_numbered (Ok n) = refl
+count_numbered (Err e) = refl
+
+pub complete_numbered : (c : Result Bool RLNCError) → number_in c ≡ complete_number c
+unfolding complete_number
+complete_numbered (Ok b) = refl
+complete_numbered (Err e) = refl

@@ -1,4 +1,3 @@
-pub mod Numbered
 pub mod Given
 pub mod Records
 pub mod Forms

@@ -4,14 +4,13 @@ use mathlib.Core.Path.{◌≡◌, sym, ◌∙◌}
 use mathlib.Core.Bool.{Bool}
 use mathlib.Core.List.{List}
 use Prim.Native.Nat.{ℕ}
-use Rattle.answers.specs.declared.Answer.{Answer}
-use Rattle.galois.specs.declared.Quotient.{Quotient}
+use Rattle.std.specs.Prelude.{Option, Result}
+use Rattle.answers.specs.Number.{Answer}
+use Rattle.answers.specs.declared.RLNCError.{RLNCError}
 use Rattle.galois.specs.FieldLaws.{FieldLaws}
-use Rattle.block.specs.declared.Count.{Count}
 use Rattle.decoder.specs.declared.Decoder.{Decoder}
-use Rattle.decoder.specs.declared.Complete.{Complete}
+use Rattle.stream.specs.declared.Geometry.{Geometry}
 use Rattle.stream.specs.declared.Record.{Record}
-use Rattle.rlnc.specs.declared.pieces.Listed.{Listed}
 use Rattle.rlnc.specs.Numbered.{Numbered}
 use Rattle.rlnc.specs.Given.{QuotientGiven, CountGiven, CompleteGiven}
 use Rattle.rlnc.specs.Records.{EncoderMade, UnpaddedMade, RecoderMade, DecoderMade, PieceTaken, DataRecovered}
@@ -23,14 +22,14 @@ pub one_numbered : {last last' : List ℕ} {a : Answer} {r r' : ℕ} (Outcome : 
     → ((x y : List ℕ) → Outcome x a → Outcome y a → x ≡ y) → Numbered (Outcome last) a r → Numbered (Outcome last') a r' → (r ≡ r') × (last ≡ last')
 one_numbered {last} {last'} Outcome one x y = (x.number ∙ sym y.number, one last last' x.outcome y.outcome)
 
-pub one_quotient : {q : Quotient} {before after after' : ℕ} {r r' : Bool} → QuotientGiven q before r after → QuotientGiven q before r' after'
+pub one_quotient : {q : Option ℕ} {before after after' : ℕ} {r r' : Bool} → QuotientGiven q before r after → QuotientGiven q before r' after'
     → (r ≡ r') × (after ≡ after')
 one_quotient x y = (x.told ∙ sym y.told, x.stored ∙ sym y.stored)
 
-pub one_count : {c : Count} {before r r' after after' : ℕ} → CountGiven c before r after → CountGiven c before r' after' → (r ≡ r') × (after ≡ after')
+pub one_count : {c : Result ℕ RLNCError} {before r r' after after' : ℕ} → CountGiven c before r after → CountGiven c before r' after' → (r ≡ r') × (after ≡ after')
 one_count x y = (x.number ∙ sym y.number, x.stored ∙ sym y.stored)
 
-pub one_complete : {c : Complete} {before after after' : Bool} {r r' : ℕ} → CompleteGiven c before r after → CompleteGiven c before r' after'
+pub one_complete : {c : Result Bool RLNCError} {before after after' : Bool} {r r' : ℕ} → CompleteGiven c before r after → CompleteGiven c before r' after'
     → (r ≡ r') × (after ≡ after')
 one_complete x y = (x.number ∙ sym y.number, x.stored ∙ sym y.stored)
 
@@ -66,13 +65,13 @@ pub one_loaded : {form elements last last' : List ℕ} {before after after' : De
     → FormLoaded form elements before r' after' last' → (r ≡ r') × (after ≡ after') × (last ≡ last')
 one_loaded x y = (x.number ∙ sym y.number, x.stored ∙ sym y.stored, x.left ∙ sym y.left)
 
-pub one_record : {m : Record} {before r r' after after' : ℕ} → RecordGiven m before r after → RecordGiven m before r' after'
+pub one_record : {m : Result Record RLNCError} {before r r' after after' : ℕ} → RecordGiven m before r after → RecordGiven m before r' after'
     → (r ≡ r') × (after ≡ after')
 one_record x y = (x.number ∙ sym y.number, x.stored ∙ sym y.stored)
 
-pub one_written : {l : Listed} {piece out last last' : List ℕ} {r r' : ℕ} → PieceWritten l piece out r last → PieceWritten l piece out r' last'
+pub one_written : {l : Option Geometry} {piece out last last' : List ℕ} {r r' : ℕ} → PieceWritten l piece out r last → PieceWritten l piece out r' last'
     → (r ≡ r') × (last ≡ last')
 one_written x y = (x.number ∙ sym y.number, x.left ∙ sym y.left)
 
-pub one_sizes : {l : Listed} {k L r r' a a' b b' : ℕ} → SizesGiven l k L r a b → SizesGiven l k L r' a' b' → (r ≡ r') × (a ≡ a') × (b ≡ b')
+pub one_sizes : {l : Option Geometry} {k L r r' a a' b b' : ℕ} → SizesGiven l k L r a b → SizesGiven l k L r' a' b' → (r ≡ r') × (a ≡ a') × (b ≡ b')
 one_sizes x y = (x.number ∙ sym y.number, x.pieces_stored ∙ sym y.pieces_stored, x.length_stored ∙ sym y.length_stored)

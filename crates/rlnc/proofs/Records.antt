@@ -1,159 +1,99 @@
--- A result that is known by its case, handed out as its number and the numbers of its record.
+-- A record that was made, handed out as its number and a number of it; a piece that was taken.
 -- Assumes nothing.
-use mathlib.Core.Path.{◌≡◌, refl, sym, ap, ◌∙◌}
+use mathlib.Core.Path.{◌≡◌, refl, ap, ◌∙◌, subst}
 use mathlib.Core.Bool.{Bool, true, false}
 use mathlib.Core.List.{List}
-use Prim.Native.Nat.{ℕ, zero, suc}
+use Prim.Native.Nat.{ℕ}
 use lib.Dec.{eqb}
 use lib.ListN.{length}
-use Rattle.answers.specs.Number.{number_of}
-use Rattle.answers.specs.declared.Answer.{Answer}
+use Rattle.std.specs.Prelude.{Result, Ok, Err, IsOkAnd, MatchResult}
+use Rattle.answers.specs.Number.{Answer, number_of}
+use Rattle.answers.specs.declared.RLNCError.{RLNCError}
 use Rattle.galois.specs.FieldLaws.{FieldLaws}
-use Rattle.linear.specs.Choice.{pick, if_zero}
-use Rattle.block.specs.Refusal.{if_ok}
-use Rattle.encoder.specs.declared.Made as encoder
-use Rattle.encoder.specs.declared.Made.TheVariants as coding
+use Rattle.linear.specs.Choice.{pick}
+use Rattle.block.specs.Refusal.{if_ok, answered}
+use Rattle.encoder.specs.declared.Encoder.{Encoder}
 use Rattle.encoder.specs.Made as MadeOfEncoder
 use Rattle.encoder.specs.Entries.{padded_refusal, NewPadded, unpadded_refusal, NewUnpadded}
-use Rattle.recoder.specs.declared.Made as recoder
-use Rattle.recoder.specs.declared.Made.TheVariants as recoding
+use Rattle.recoder.specs.declared.Recoder.{Recoder}
 use Rattle.recoder.specs.Made as MadeOfRecoder
 use Rattle.recoder.specs.Entries as EntriesOfRecoder
 use Rattle.decoder.specs.declared.Decoder.{Decoder}
-use Rattle.decoder.specs.declared.Made.{Made}
-use Rattle.decoder.specs.declared.Made.TheVariants as new
 use Rattle.decoder.specs.declared.Taken.{Taken}
-use Rattle.decoder.specs.declared.Taken.TheVariants as piece
-use Rattle.decoder.specs.declared.Recovered.{Recovered}
-use Rattle.decoder.specs.declared.Recovered.TheVariants as recovered
+use Rattle.decoder.specs.declared.Taken.TheVariants.{Useful, NotUseful}
 use Rattle.decoder.specs.Records.{rows_in, taken_by}
-use Rattle.decoder.specs.Answers.{made_number, taken_number, kept, recovered_number}
-use Rattle.decoder.specs.Entries.{new_refusal, NewDecoder, take_refusal, rows_after, after, taking, Decoded, recover_refusal, Recovery}
+use Rattle.decoder.specs.Answers.{taken_number, kept}
+use Rattle.decoder.specs.Entries.{take_refusal, rows_after, after, taking, Decoded, Recovery}
 use Rattle.decoder.specs.Calls.{number_next, record_next, buffer_next}
-use Rattle.rlnc.specs.Records.{EncoderMade, UnpaddedMade, RecoderMade, DecoderMade, PieceTaken, DataRecovered}
+use Rattle.rlnc.specs.Given.{Given}
+use Rattle.rlnc.specs.Records.{EncoderMade, UnpaddedMade, RecoderMade, PieceTaken, DataRecovered}
+use Rattle.rlnc.proofs.Given.{part_of, given_number, given_value}
 
-pub if_ok_ap : {A B : Type 0} (f : A → B) (a : Answer) (x y : A) → f (if_ok a x y) ≡ if_ok a (f x) (f y)
-if_ok_ap f a x y = go (number_of a)
-  where
-    go : (n : ℕ) → f (if_zero n x y) ≡ if_zero n (f x) (f y)
-    go zero = refl
-    go (suc n) = refl
+-- ---- what `map` leaves, where its closure picks the number that is handed out
 
--- a result is a value or its refusal, and the value's number is 0
-pub number_is : (a : Answer) → if_ok a 0 (number_of a) ≡ number_of a
-number_is a = go (number_of a)
-  where
-    go : (n : ℕ) → if_zero n 0 n ≡ n
-    go zero = refl
-    go (suc n) = refl
+module _ {P : Encoder → ℕ → Type 0} {m : Result Encoder RLNCError} {k L r L' : ℕ} {c : Result ℕ RLNCError} where
+  pub encoder_made : {M : ℕ} {bytes block last : List ℕ} → NewPadded M bytes block k m last → ((e : Encoder) (x : ℕ) → P e x → x ≡ e.piece_byte_len)
+      → MatchResult m (λ e. IsOkAnd c (P e)) (λ e. c ≡ Err e) → Given c L r L' → EncoderMade M bytes block k L r L' last
+  unfolding MadeOfEncoder.made
+  encoder_made {bytes} {block} o h s g =
+      let e = part_of (λ (e : Encoder). e.piece_byte_len) (padded_refusal (length bytes) k (length block)) _ h o.result s in
+      record { number = given_number _ _ e g; length_stored = given_value _ _ e g; left = o.left }
 
--- what then stands where a length or a count stood
-unfoldable pub length_after : ℕ → encoder.Made → ℕ
-length_after L (coding.Of e) = e.piece_byte_len
-length_after L (coding.Refused a) = L
+  pub unpadded_made : {n : ℕ} → NewUnpadded n k m → ((e : Encoder) (x : ℕ) → P e x → x ≡ e.piece_byte_len)
+      → MatchResult m (λ e. IsOkAnd c (P e)) (λ e. c ≡ Err e) → Given c L r L' → UnpaddedMade n k L r L'
+  unfolding MadeOfEncoder.made
+  unpadded_made {n} o h s g =
+      let e = part_of (λ (e : Encoder). e.piece_byte_len) (unpadded_refusal n k) _ h o.result s in
+      record { number = given_number _ _ e g; length_stored = given_value _ _ e g }
 
-unfoldable pub count_after : ℕ → recoder.Made → ℕ
-count_after m (recoding.Of d) = d.num_pieces_received
-count_after m (recoding.Refused a) = m
+pub recoder_made : {P : Recoder → ℕ → Type 0} {n width k m r m' : ℕ} {d : Result Recoder RLNCError} {c : Result ℕ RLNCError}
+    → EntriesOfRecoder.NewRecoder n width k d → ((d : Recoder) (x : ℕ) → P d x → x ≡ d.num_pieces_received)
+    → MatchResult d (λ x. IsOkAnd c (P x)) (λ e. c ≡ Err e) → Given c m r m' → RecoderMade n width k m r m'
+unfolding MadeOfRecoder.made
+recoder_made {n} {width} {k} o h s g =
+    let e = part_of (λ (x : Recoder). x.num_pieces_received) (EntriesOfRecoder.new_refusal n width k) _ h o.result s in
+    record { number = given_number _ _ e g; count_stored = given_value _ _ e g }
 
-unfoldable pub rows_or : ℕ → Made → ℕ
-rows_or rows (new.Of d) = rows_in d
-rows_or rows (new.Refused a) = rows
+-- ----
 
-unfoldable pub taken_or : ℕ → Made → ℕ
-taken_or taken (new.Of d) = taken_by d
-taken_or taken (new.Refused a) = taken
+pub data_recovered : {M : ℕ} {d : Decoder} {elements out last : List ℕ} {n r n' : ℕ} {c : Result ℕ RLNCError} → Recovery M d elements out c last
+    → Given c n r n' → DataRecovered M d elements out n r n' last
+data_recovered o g = record { number = given_number _ _ o.result g; length_stored = given_value _ _ o.result g; left = o.left }
 
-unfoldable pub data_after : ℕ → Recovered → ℕ
-data_after n (recovered.Data x) = x
-data_after n (recovered.Refused a) = n
-
-pub encoder_made : {M : ℕ} {bytes block last : List ℕ} {k L r : ℕ} {m : encoder.Made} → NewPadded M bytes block k m last
-    → (c : encoder.Made) → m ≡ c → r ≡ MadeOfEncoder.made_number c → EncoderMade M bytes block k L r (length_after L c) last
-unfolding MadeOfEncoder.made_number MadeOfEncoder.made length_after
-encoder_made {M} {bytes} {block} {last} {k} {L} o c e n = record {
-  number = n ∙ ap MadeOfEncoder.made_number (sym e ∙ o.result) ∙ if_ok_ap MadeOfEncoder.made_number a _ _ ∙ number_is a;
-  length_stored = ap (length_after L) (sym e ∙ o.result) ∙ if_ok_ap (length_after L) a _ _;
-  left = o.left;
-}
-  where
-    a : Answer
-    a = padded_refusal (length bytes) k (length block)
-
-pub unpadded_made : {n k L r : ℕ} {m : encoder.Made} → NewUnpadded n k m
-    → (c : encoder.Made) → m ≡ c → r ≡ MadeOfEncoder.made_number c → UnpaddedMade n k L r (length_after L c)
-unfolding MadeOfEncoder.made_number MadeOfEncoder.made length_after
-unpadded_made {n} {k} {L} o c e t = record {
-  number = t ∙ ap MadeOfEncoder.made_number (sym e ∙ o.result) ∙ if_ok_ap MadeOfEncoder.made_number a _ _ ∙ number_is a;
-  length_stored = ap (length_after L) (sym e ∙ o.result) ∙ if_ok_ap (length_after L) a _ _;
-}
-  where
-    a : Answer
-    a = unpadded_refusal n k
-
-pub recoder_made : {n width k m r : ℕ} {d : recoder.Made} → EntriesOfRecoder.NewRecoder n width k d
-    → (c : recoder.Made) → d ≡ c → r ≡ MadeOfRecoder.made_number c → RecoderMade n width k m r (count_after m c)
-unfolding MadeOfRecoder.made_number MadeOfRecoder.made count_after
-recoder_made {n} {width} {k} {m} o c e t = record {
-  number = t ∙ ap MadeOfRecoder.made_number (sym e ∙ o.result) ∙ if_ok_ap MadeOfRecoder.made_number a _ _ ∙ number_is a;
-  count_stored = ap (count_after m) (sym e ∙ o.result) ∙ if_ok_ap (count_after m) a _ _;
-}
-  where
-    a : Answer
-    a = EntriesOfRecoder.new_refusal n width k
-
-pub decoder_made : {L k : ℕ} {elements last : List ℕ} {rows taken r : ℕ} {m : Made} → NewDecoder L k elements m last
-    → (c : Made) → m ≡ c → r ≡ made_number c → DecoderMade L k elements rows taken r (rows_or rows c) (taken_or taken c) last
-unfolding made_number rows_or taken_or
-decoder_made {L} {k} {elements} {last} {rows} {taken} o c e n = record {
-  number = n ∙ ap made_number (sym e ∙ o.result) ∙ if_ok_ap made_number a _ _ ∙ number_is a;
-  rows_stored = ap (rows_or rows) (sym e ∙ o.result) ∙ if_ok_ap (rows_or rows) a _ _;
-  taken_stored = ap (taken_or taken) (sym e ∙ o.result) ∙ if_ok_ap (taken_or taken) a _ _;
-  left = o.left;
-}
-  where
-    a : Answer
-    a = new_refusal L k (length elements)
-
-module _ {𝓕 : FieldLaws} {d : Decoder} {elements full last : List ℕ} {m : Taken} (o : Decoded 𝓕 d elements full m last) where
+module _ {𝓕 : FieldLaws} {d : Decoder} {elements full last : List ℕ} {m : Result Taken RLNCError} (o : Decoded 𝓕 d elements full m last) where
   abbrev refusal : Answer
   refusal = take_refusal d (length elements) (length full)
 
-  number_next_lem : taken_number m ≡ number_next 𝓕 d elements full
-  unfolding taken_number number_next
-  number_next_lem = ap taken_number o.result ∙ if_ok_ap taken_number refusal _ _
+  taken_answered : (a : Answer) (x : Taken) → taken_number (answered a x) ≡ if_ok a (taken_number (Ok x)) (number_of a)
+  unfolding taken_number
+  taken_answered (Ok z) x = refl
+  taken_answered (Err e) x = refl
+
+  kept_answered : (a : Answer) (x : Taken) → kept d (answered a x) ≡ if_ok a (kept d (Ok x)) d
+  unfolding kept
+  kept_answered (Ok z) x = refl
+  kept_answered (Err e) x = refl
 
   -- useful or not, the record after the piece is the same
-  kept_taking : kept d (taking 𝓕 d elements full) ≡ after 𝓕 d elements full
+  kept_taking : kept d (Ok (taking 𝓕 d elements full)) ≡ after 𝓕 d elements full
   unfolding kept taking
   kept_taking = go (eqb (length (rows_after 𝓕 d elements full)) (rows_in d))
     where
-      go : (t : Bool) → kept d (pick t (piece.NotUseful (after 𝓕 d elements full)) (piece.Useful (after 𝓕 d elements full))) ≡ after 𝓕 d elements full
+      go : (t : Bool) → kept d (Ok (pick t (NotUseful (after 𝓕 d elements full)) (Useful (after 𝓕 d elements full)))) ≡ after 𝓕 d elements full
       go true = refl
       go false = refl
 
   kept_next : kept d m ≡ record_next 𝓕 d elements full
-  unfolding kept record_next
+  unfolding record_next
   kept_next =
-      ap (kept d) o.result ∙ if_ok_ap (kept d) refusal _ _ ∙ ap (λ (x : Decoder). if_ok refusal x d) kept_taking
+      ap (kept d) o.result ∙ kept_answered refusal _ ∙ ap (λ (x : Decoder). if_ok refusal x d) kept_taking
 
-  pub piece_taken : {r : ℕ} (c : Taken) → m ≡ c → r ≡ taken_number c → PieceTaken 𝓕 d elements full r (rows_in (kept d c)) (taken_by (kept d c)) last
-  unfolding buffer_next
-  piece_taken c e n = record {
-    number = n ∙ ap taken_number (sym e) ∙ number_next_lem;
-    rows_stored = ap (λ (x : Taken). rows_in (kept d x)) (sym e) ∙ ap rows_in kept_next;
-    taken_stored = ap (λ (x : Taken). taken_by (kept d x)) (sym e) ∙ ap taken_by kept_next;
+  pub piece_taken : {d' : Decoder} {r : ℕ} (e : Decoder) → d ≡ d' → r ≡ taken_number m → e ≡ kept d m
+      → PieceTaken 𝓕 d' elements full r (rows_in e) (taken_by e) last
+  unfolding number_next buffer_next
+  piece_taken {r} e same n k = subst (λ (x : Decoder). PieceTaken 𝓕 x elements full r (rows_in e) (taken_by e) last) same (record {
+    number = n ∙ ap taken_number o.result ∙ taken_answered refusal _;
+    rows_stored = ap rows_in (k ∙ kept_next);
+    taken_stored = ap taken_by (k ∙ kept_next);
     left = o.left;
-  }
-
-pub data_recovered : {M : ℕ} {d : Decoder} {elements out last : List ℕ} {n r : ℕ} {m : Recovered} → Recovery M d elements out m last
-    → (c : Recovered) → m ≡ c → r ≡ recovered_number c → DataRecovered M d elements out n r (data_after n c) last
-unfolding recovered_number data_after
-data_recovered {M} {d} {elements} {out} {last} {n} o c e h = record {
-  number = h ∙ ap recovered_number (sym e ∙ o.result) ∙ if_ok_ap recovered_number a _ _ ∙ number_is a;
-  length_stored = ap (data_after n) (sym e ∙ o.result) ∙ if_ok_ap (data_after n) a _ _;
-  left = o.left;
-}
-  where
-    a : Answer
-    a = recover_refusal M d elements (length out)
+  })

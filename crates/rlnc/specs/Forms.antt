@@ -1,11 +1,10 @@
 -- Saving and loading a decoder that crosses as its numbers.
 use Rattle.std.specs.Prelude.{◌≡◌, List, ◌++◌, ℕ, length, drop}
+use Rattle.std.specs.Result.{result_unwrap_or}
 use Rattle.answers.specs.Number.{number_of}
 use Rattle.block.specs.Refusal.{if_ok}
 use Rattle.decoder.specs.declared.Decoder.{Decoder}
 use Rattle.decoder.specs.Records.{k_of, l_of}
-use Rattle.stored.specs.declared.Loaded.{Loaded}
-use Rattle.stored.specs.declared.Loaded.TheVariants as loaded
 use Rattle.stored.specs.Forms.{size_geometry}
 use Rattle.stored.specs.Entries.{save_refusal, saved_form, loaded_number, load_refusal, geometry_in, load_result, load_matrix}
 
@@ -20,11 +19,7 @@ pub record FormSaved (d : Decoder) (elements out : List ℕ) (n r n' : ℕ) (las
   pub left : last ≡ if_ok (save_refusal d (length elements) (length out)) (form_for d elements ++ drop (length (form_for d elements)) out) out
 
 -- the decoder loaded, or that whose numbers stood there
-unfoldable pub loaded_or : Decoder → Loaded → Decoder
-loaded_or before (loaded.Of d) = d
-loaded_or before (loaded.Refused a) = before
-
 pub record FormLoaded (form elements : List ℕ) (before : Decoder) (r : ℕ) (after : Decoder) (last : List ℕ) : Type 0 where
   pub number : r ≡ loaded_number (load_result (geometry_in form) form (load_refusal form (length elements)))
-  pub stored : after ≡ loaded_or before (load_result (geometry_in form) form (load_refusal form (length elements)))
+  pub stored : after ≡ result_unwrap_or (load_result (geometry_in form) form (load_refusal form (length elements))) before
   pub left : last ≡ if_ok (load_refusal form (length elements)) (load_matrix (geometry_in form) form elements) elements

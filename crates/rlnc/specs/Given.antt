@@ -1,40 +1,26 @@
 -- A result handed out in two parts: its number, or whether there is one, and what then stands where its value goes. That keeps what stood there
 -- where there is no value.
-use Rattle.std.specs.Prelude.{◌≡◌, Bool, true, false, ℕ}
-use Rattle.galois.specs.declared.Quotient.{Quotient}
-use Rattle.galois.specs.declared.Quotient.TheVariants.{Byte, ByZero}
-use Rattle.block.specs.declared.Count.{Count}
-use Rattle.block.specs.declared.Count.TheVariants as count
-use Rattle.block.specs.Counts.{count_number}
-use Rattle.decoder.specs.declared.Complete.{Complete}
-use Rattle.decoder.specs.declared.Complete.TheVariants as complete
-use Rattle.decoder.specs.Answers.{complete_number}
+use Rattle.std.specs.Prelude.{◌≡◌, Bool, ℕ, Option, is_some, unwrap_or, Result, Ok, Err}
+use Rattle.std.specs.Result.{result_unwrap_or}
+use Rattle.answers.specs.Number.{code_of}
+use Rattle.answers.specs.declared.RLNCError.{RLNCError}
 
 -- the paper's table has no number for an inverse or a quotient: there is a byte, or there is none
-unfoldable pub has_byte : Quotient → Bool
-has_byte (Byte b) = true
-has_byte ByZero = false
+pub record QuotientGiven (q : Option ℕ) (before : ℕ) (r : Bool) (after : ℕ) : Type 0 where
+  pub told : r ≡ is_some q
+  pub stored : after ≡ unwrap_or q before
 
-unfoldable pub byte_or : ℕ → Quotient → ℕ
-byte_or before (Byte b) = b
-byte_or before ByZero = before
+-- the number of a result
+abbrev pub number_in : {A : Type 0} → Result A RLNCError → ℕ
+number_in (Ok x) = 0
+number_in (Err e) = code_of e
 
-pub record QuotientGiven (q : Quotient) (before : ℕ) (r : Bool) (after : ℕ) : Type 0 where
-  pub told : r ≡ has_byte q
-  pub stored : after ≡ byte_or before q
+pub record Given {A : Type 0} (c : Result A RLNCError) (before : A) (r : ℕ) (after : A) : Type 0 where
+  pub number : r ≡ number_in c
+  pub stored : after ≡ result_unwrap_or c before
 
-unfoldable pub count_or : ℕ → Count → ℕ
-count_or before (count.Of n) = n
-count_or before (count.Refused a) = before
+abbrev pub CountGiven : Result ℕ RLNCError → ℕ → ℕ → ℕ → Type 0
+CountGiven = Given
 
-pub record CountGiven (c : Count) (before r after : ℕ) : Type 0 where
-  pub number : r ≡ count_number c
-  pub stored : after ≡ count_or before c
-
-unfoldable pub complete_or : Bool → Complete → Bool
-complete_or before (complete.Of b) = b
-complete_or before (complete.Refused a) = before
-
-pub record CompleteGiven (c : Complete) (before : Bool) (r : ℕ) (after : Bool) : Type 0 where
-  pub number : r ≡ complete_number c
-  pub stored : after ≡ complete_or before c
+abbrev pub CompleteGiven : Result Bool RLNCError → Bool → ℕ → Bool → Type 0
+CompleteGiven = Given

@@ -6,9 +6,7 @@ ghost use Rattle.decoder.specs.Entries.{decoder_of, completed};
 ghost use Rattle.rlnc.specs.Given.{CountGiven, CompleteGiven};
 
 use crate::decode::decoder_of;
-use crate::give::give_count;
-use answers::Answer;
-use decoder::Complete;
+use crate::give::give;
 
 pub fn rlnc_decoder_get_num_pieces_coded_together(
     piece_byte_len: usize,
@@ -25,7 +23,7 @@ pub fn rlnc_decoder_get_num_pieces_coded_together(
         useful_piece_count,
         received_piece_count,
     );
-    give_count(decoder.get_num_pieces_coded_together(), count)
+    give(decoder.get_num_pieces_coded_together(), count)
 }
 
 pub fn rlnc_decoder_get_piece_byte_len(
@@ -43,7 +41,7 @@ pub fn rlnc_decoder_get_piece_byte_len(
         useful_piece_count,
         received_piece_count,
     );
-    give_count(decoder.get_piece_byte_len(), count)
+    give(decoder.get_piece_byte_len(), count)
 }
 
 pub fn rlnc_decoder_get_full_coded_piece_byte_len(
@@ -61,7 +59,7 @@ pub fn rlnc_decoder_get_full_coded_piece_byte_len(
         useful_piece_count,
         received_piece_count,
     );
-    give_count(decoder.get_full_coded_piece_byte_len(), count)
+    give(decoder.get_full_coded_piece_byte_len(), count)
 }
 
 pub fn rlnc_decoder_get_received_piece_count(
@@ -79,7 +77,7 @@ pub fn rlnc_decoder_get_received_piece_count(
         useful_piece_count,
         received_piece_count,
     );
-    give_count(decoder.get_received_piece_count(), count)
+    give(decoder.get_received_piece_count(), count)
 }
 
 pub fn rlnc_decoder_get_useful_piece_count(
@@ -97,7 +95,7 @@ pub fn rlnc_decoder_get_useful_piece_count(
         useful_piece_count,
         received_piece_count,
     );
-    give_count(decoder.get_useful_piece_count(), count)
+    give(decoder.get_useful_piece_count(), count)
 }
 
 pub fn rlnc_decoder_get_remaining_piece_count(
@@ -115,7 +113,7 @@ pub fn rlnc_decoder_get_remaining_piece_count(
         useful_piece_count,
         received_piece_count,
     );
-    give_count(decoder.get_remaining_piece_count(), count)
+    give(decoder.get_remaining_piece_count(), count)
 }
 
 pub fn rlnc_decoder_is_already_decoded(
@@ -133,12 +131,5 @@ pub fn rlnc_decoder_is_already_decoded(
         useful_piece_count,
         received_piece_count,
     );
-    let asked = decoder.is_already_decoded();
-    match asked {
-        Complete::Of(b) => {
-            *complete = b;
-            Answer::Ok.number()
-        }
-        Complete::Refused(a) => a.number(),
-    }
+    give(decoder.is_already_decoded(), complete)
 }

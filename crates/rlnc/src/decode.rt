@@ -1,12 +1,15 @@
 // The decoder: the numbers `piece_byte_len`, `required_piece_count`, `useful_piece_count` and `received_piece_count`, beside the lent matrix.
 ghost use Rattle.std.specs.Prelude.{◌≡◌};
+ghost use Rattle.answers.specs.Number.{number_of};
 ghost use Rattle.gf256.proofs.Known.{fips};
 ghost use Rattle.block.specs.Padding.{marker};
+ghost use Rattle.decoder.specs.Answers.{kept, taken_number};
 ghost use Rattle.decoder.specs.Entries.{decoder_of};
 ghost use Rattle.rlnc.specs.Records.{DecoderMade, PieceTaken, DataRecovered};
 
-use answers::Answer;
-use decoder::{Decoder, Made, ReceivedPieceCount, Recovered, Taken, UsefulPieceCount};
+use crate::give::give;
+use answers::{Answer, RLNCError};
+use decoder::{Decoder, ReceivedPieceCount, Taken, UsefulPieceCount};
 use field::Field;
 
 // The record of these numbers.
@@ -35,14 +38,26 @@ pub fn rlnc_decoder_new(
 ) -> u8
     ensures { DecoderMade piece_byte_len required_piece_count elements.old useful_piece_count.old received_piece_count.old result useful_piece_count.new received_piece_count.new elements.new }
 {
-    let made = Decoder::new(piece_byte_len, required_piece_count, elements);
-    match made {
-        Made::Of(d) => {
+    match Decoder::new(piece_byte_len, required_piece_count, elements) {
+        Ok(d) => {
             *useful_piece_count = d.useful_piece_count.0;
             *received_piece_count = d.received_piece_count.0;
-            Answer::Ok.number()
+            0
         }
-        Made::Refused(a) => a.number(),
+        Err(e) => e.number(),
+    }
+}
+
+// The record that the caller goes on with, and the answer.
+#[tactic(auto, unfolding(decoder::specs::Answers::taken_number, decoder::specs::Answers::kept))]
+fn after_piece(decoder: Decoder, taken: Result<Taken, RLNCError>) -> (Decoder, Answer)
+    ensures kept { result.0 ≡ kept decoder taken }
+    ensures number { number_of result.1 ≡ taken_number taken }
+{
+    match taken {
+        Ok(Taken::Useful(d)) => (d, Ok(())),
+        Ok(Taken::NotUseful(d)) => (d, Err(RLNCError::PieceNotUseful)),
+        Err(e) => (decoder, Err(e)),
     }
 }
 
@@ -56,28 +71,20 @@ pub fn rlnc_decoder_decode(
 ) -> u8
     ensures { PieceTaken fips (decoder_of required_piece_count piece_byte_len useful_piece_count.old received_piece_count.old) elements.old full_coded_piece.now result useful_piece_count.new received_piece_count.new elements.new }
 {
-    let decoder = Decoder {
-        required_piece_count,
+    let decoder = decoder_of(
         piece_byte_len,
-        useful_piece_count: UsefulPieceCount(*useful_piece_count),
-        received_piece_count: ReceivedPieceCount(*received_piece_count),
-    };
+        required_piece_count,
+        *useful_piece_count,
+        *received_piece_count,
+    );
     let taken = decoder.decode(Field::Fips197, elements, full_coded_piece);
-    match taken {
-        Taken::Useful(d) => {
-            *useful_piece_count = d.useful_piece_count.0;
-            *received_piece_count = d.received_piece_count.0;
-            Answer::Ok.number()
-        }
-        Taken::NotUseful(d) => {
-            *useful_piece_count = d.useful_piece_count.0;
-            *received_piece_count = d.received_piece_count.0;
-            Answer::PieceNotUseful.number()
-        }
-        Taken::Refused(a) => a.number(),
-    }
+    let (after, answer) = after_piece(decoder, taken);
+    *useful_piece_count = after.useful_piece_count.0;
+    *received_piece_count = after.received_piece_count.0;
+    answers::number(answer)
 }
 
+#[tactic(auto, using(crate::proofs::Records::data_recovered))]
 pub fn rlnc_decoder_get_decoded_data(
     piece_byte_len: usize,
     required_piece_count: usize,
@@ -89,18 +96,11 @@ pub fn rlnc_decoder_get_decoded_data(
 ) -> u8
     ensures { DataRecovered marker (decoder_of required_piece_count piece_byte_len useful_piece_count received_piece_count) elements.now «data».old data_len.old result data_len.new «data».new }
 {
-    let decoder = Decoder {
-        required_piece_count,
+    let decoder = decoder_of(
         piece_byte_len,
-        useful_piece_count: UsefulPieceCount(useful_piece_count),
-        received_piece_count: ReceivedPieceCount(received_piece_count),
-    };
-    let recovered = decoder.get_decoded_data(elements, data);
-    match recovered {
-        Recovered::Data(n) => {
-            *data_len = n;
-            Answer::Ok.number()
-        }
-        Recovered::Refused(a) => a.number(),
-    }
+        required_piece_count,
+        useful_piece_count,
+        received_piece_count,
+    );
+    give(decoder.get_decoded_data(elements, data), data_len)
 }

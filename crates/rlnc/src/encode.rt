@@ -1,5 +1,5 @@
 // The encoder: the numbers `piece_count` and `piece_byte_len`, beside the lent block.
-ghost use Rattle.std.specs.Prelude.{◌+◌, length};
+ghost use Rattle.std.specs.Prelude.{◌≡◌, ◌+◌, length};
 ghost use Rattle.gf256.proofs.Known.{fips};
 ghost use Rattle.block.specs.Padding.{marker};
 ghost use Rattle.block.specs.Sizes.{sized};
@@ -9,10 +9,19 @@ ghost use Rattle.rlnc.specs.Numbered.{Numbered};
 ghost use Rattle.rlnc.specs.Given.{CountGiven};
 ghost use Rattle.rlnc.specs.Records.{encoder_of, EncoderMade, UnpaddedMade};
 
-use crate::give::give_count;
-use answers::Answer;
-use encoder::{Encoder, Made};
+use crate::give::give;
+use encoder::Encoder;
 use field::Field;
+
+// The record of these numbers.
+fn encoder_of(piece_count: usize, piece_byte_len: usize) -> Encoder
+    ensures { result ≡ encoder_of piece_count piece_byte_len }
+{
+    Encoder {
+        piece_count,
+        piece_byte_len,
+    }
+}
 
 pub fn rlnc_encoder_new(
     data: &[u8],
@@ -23,13 +32,7 @@ pub fn rlnc_encoder_new(
     ensures { EncoderMade marker «data».now block.old piece_count piece_byte_len.old result piece_byte_len.new block.new }
 {
     let made = Encoder::new(data, block, piece_count);
-    match made {
-        Made::Of(e) => {
-            *piece_byte_len = e.piece_byte_len;
-            Answer::Ok.number()
-        }
-        Made::Refused(a) => a.number(),
-    }
+    give(made.map(|e| e.piece_byte_len), piece_byte_len)
 }
 
 pub fn rlnc_encoder_without_padding(
@@ -40,13 +43,7 @@ pub fn rlnc_encoder_without_padding(
     ensures { UnpaddedMade (length «data».now) piece_count piece_byte_len.old result piece_byte_len.new }
 {
     let made = Encoder::without_padding(data, piece_count);
-    match made {
-        Made::Of(e) => {
-            *piece_byte_len = e.piece_byte_len;
-            Answer::Ok.number()
-        }
-        Made::Refused(a) => a.number(),
-    }
+    give(made.map(|e| e.piece_byte_len), piece_byte_len)
 }
 
 pub fn rlnc_encoder_get_piece_count(
@@ -56,11 +53,8 @@ pub fn rlnc_encoder_get_piece_count(
 ) -> u8
     ensures { CountGiven (counted (sized piece_count piece_byte_len) piece_count) count.old result count.new }
 {
-    let encoder = Encoder {
-        piece_count,
-        piece_byte_len,
-    };
-    give_count(encoder.get_piece_count(), count)
+    let encoder = encoder_of(piece_count, piece_byte_len);
+    give(encoder.get_piece_count(), count)
 }
 
 pub fn rlnc_encoder_get_piece_byte_len(
@@ -70,11 +64,8 @@ pub fn rlnc_encoder_get_piece_byte_len(
 ) -> u8
     ensures { CountGiven (counted (sized piece_count piece_byte_len) piece_byte_len) count.old result count.new }
 {
-    let encoder = Encoder {
-        piece_count,
-        piece_byte_len,
-    };
-    give_count(encoder.get_piece_byte_len(), count)
+    let encoder = encoder_of(piece_count, piece_byte_len);
+    give(encoder.get_piece_byte_len(), count)
 }
 
 pub fn rlnc_encoder_get_full_coded_piece_byte_len(
@@ -84,11 +75,8 @@ pub fn rlnc_encoder_get_full_coded_piece_byte_len(
 ) -> u8
     ensures { CountGiven (counted (sized piece_count piece_byte_len) (piece_count + piece_byte_len)) count.old result count.new }
 {
-    let encoder = Encoder {
-        piece_count,
-        piece_byte_len,
-    };
-    give_count(encoder.get_full_coded_piece_byte_len(), count)
+    let encoder = encoder_of(piece_count, piece_byte_len);
+    give(encoder.get_full_coded_piece_byte_len(), count)
 }
 
 pub fn rlnc_encoder_code_with_coding_vector(
@@ -100,13 +88,13 @@ pub fn rlnc_encoder_code_with_coding_vector(
 ) -> u8
     ensures { Numbered (λ a. Coded fips (encoder_of piece_count piece_byte_len) block.now coding_vector.now coded_data.old a coded_data.new) (code_refusal (encoder_of piece_count piece_byte_len) (length block.now) (length coding_vector.now) (length coded_data.old)) result }
 {
-    let encoder = Encoder {
-        piece_count,
-        piece_byte_len,
-    };
-    encoder
-        .code_with_coding_vector(Field::Fips197, block, coding_vector, coded_data)
-        .number()
+    let encoder = encoder_of(piece_count, piece_byte_len);
+    answers::number(encoder.code_with_coding_vector(
+        Field::Fips197,
+        block,
+        coding_vector,
+        coded_data,
+    ))
 }
 
 pub fn rlnc_encoder_code_with_buf(
@@ -118,11 +106,6 @@ pub fn rlnc_encoder_code_with_buf(
 ) -> u8
     ensures { Numbered (λ a. CodedWhole fips (encoder_of piece_count piece_byte_len) block.now coding_vector.now full_coded_piece.old a full_coded_piece.new) (code_whole_refusal (encoder_of piece_count piece_byte_len) (length block.now) (length coding_vector.now) (length full_coded_piece.old)) result }
 {
-    let encoder = Encoder {
-        piece_count,
-        piece_byte_len,
-    };
-    encoder
-        .code_with_buf(Field::Fips197, block, coding_vector, full_coded_piece)
-        .number()
+    let encoder = encoder_of(piece_count, piece_byte_len);
+    answers::number(encoder.code_with_buf(Field::Fips197, block, coding_vector, full_coded_piece))
 }

@@ -1,17 +1,17 @@
-// A count, handed out as its answer's number and, where there is one, the count itself.
-ghost use Rattle.rlnc.specs.Given.{CountGiven};
+// A result, handed out as its number and, where there is one, its value. An entry that sets more than one number matches by itself: of what a
+// closure sets, nothing is known after `map`.
+ghost use Rattle.rlnc.specs.Given.{Given};
 
-use answers::Answer;
-use block::Count;
+use answers::RLNCError;
 
-pub(crate) fn give_count(count: Count, into: &mut usize) -> u8
-    ensures { CountGiven count into.old result into.new }
+pub(crate) fn give<T: Copy>(found: Result<T, RLNCError>, into: &mut T) -> u8
+    ensures { Given found into.old result into.new }
 {
-    match count {
-        Count::Of(n) => {
-            *into = n;
-            Answer::Ok.number()
+    match found {
+        Ok(x) => {
+            *into = x;
+            0
         }
-        Count::Refused(a) => a.number(),
+        Err(e) => e.number(),
     }
 }

@@ -1,6 +1,6 @@
 // Arithmetic of single bytes and of rows.
-ghost use Rattle.std.specs.Prelude.{◌≡◌, ◌*◌, leb, length};
-ghost use Rattle.answers.specs.declared.Answer.TheVariants.{Ok, BadState};
+ghost use Rattle.std.specs.Prelude.{◌≡◌, ◌*◌, leb, length, Ok, Err};
+ghost use Rattle.answers.specs.declared.RLNCError.TheVariants.{BadState};
 ghost use Rattle.linear.specs.Choice.{pick};
 ghost use Rattle.galois.specs.Quotient.{inverse_of, quotient_of};
 ghost use Rattle.gf256.proofs.Known.{fips};
@@ -10,7 +10,6 @@ ghost use Rattle.rlnc.specs.Numbered.{Numbered};
 ghost use Rattle.rlnc.specs.Given.{QuotientGiven};
 
 use field::Field;
-use galois::Quotient;
 use rows::Parts;
 
 // The product.
@@ -21,16 +20,13 @@ pub fn rlnc_gf256_mul(a: u8, b: u8) -> u8
 }
 
 // The byte, and whether there is one.
-fn give_byte(quotient: Quotient, byte: &mut u8) -> bool
-    ensures { QuotientGiven quotient byte.old result byte.new }
+fn give_byte(found: Option<u8>, byte: &mut u8) -> bool
+    ensures { QuotientGiven found byte.old result byte.new }
 {
-    match quotient {
-        Quotient::Byte(b) => {
-            *byte = b;
-            true
-        }
-        Quotient::ByZero => false,
+    if let Some(b) = found {
+        *byte = b;
     }
+    found.is_some()
 }
 
 // The inverse: zero has none.
@@ -56,13 +52,13 @@ pub fn rlnc_inplace_mul_vec_by_scalar(vec: &mut [u8], scalar: u8)
 pub fn rlnc_inplace_add_vectors(dst: &mut [u8], src: &[u8]) -> u8
     ensures { Numbered (λ a. Summed src.now dst.old a dst.new) (lengths_answer src.now dst.old) result }
 {
-    rows::inplace_add_vectors(dst, src).number()
+    answers::number(rows::inplace_add_vectors(dst, src))
 }
 
 pub fn rlnc_mul_vec_by_scalar_then_add_into_vec(dst: &mut [u8], src: &[u8], scalar: u8) -> u8
     ensures { Numbered (λ a. Added fips scalar src.now dst.old a dst.new) (lengths_answer src.now dst.old) result }
 {
-    rows::mul_vec_by_scalar_then_add_into_vec(Field::Fips197, dst, src, scalar).number()
+    answers::number(rows::mul_vec_by_scalar_then_add_into_vec(Field::Fips197, dst, src, scalar))
 }
 
 pub fn rlnc_mul_part_by_scalar_then_add_into_part(
@@ -74,16 +70,16 @@ pub fn rlnc_mul_part_by_scalar_then_add_into_part(
 ) -> u8
     ensures { Numbered (λ a. PartAdded fips scalar (record { from = from; to = to; len = len }) buffer.old a buffer.new) (parts_answer (record { from = from; to = to; len = len }) buffer.old) result }
 {
-    rows::mul_part_by_scalar_then_add_into_part(
+    answers::number(rows::mul_part_by_scalar_then_add_into_part(
         Field::Fips197,
         buffer,
         Parts { from, to, len },
         scalar,
-    ).number()
+    ))
 }
 
 pub fn rlnc_combine(rows: &[u8], numbers: &[u8], out: &mut [u8]) -> u8
-    ensures { Numbered (λ a. Combined fips rows.now numbers.now out.old a out.new) (pick (leb (length numbers.now * length out.old) (length rows.now)) Ok BadState) result }
+    ensures { Numbered (λ a. Combined fips rows.now numbers.now out.old a out.new) (pick (leb (length numbers.now * length out.old) (length rows.now)) (Ok tt) (Err BadState)) result }
 {
-    rows::combine(Field::Fips197, rows, numbers, out).number()
+    answers::number(rows::combine(Field::Fips197, rows, numbers, out))
 }

@@ -3,100 +3,78 @@
 ghost use Rattle.std.specs.Prelude.{◌≡◌};
 ghost use Rattle.stream.specs.Geometries.{geometry_of};
 ghost use Rattle.stream.specs.Records.{kind_record, record_at};
-ghost use Rattle.rlnc.specs.Streams.{listed_in, earlier_of, read_by, RecordGiven, PieceWritten, SizesGiven};
+ghost use Rattle.rlnc.specs.Streams.{earlier_of, read_by, kind_in, RecordGiven, PieceWritten, SizesGiven};
 
-use answers::Answer;
-use stream::{Geometry, Record, Seen};
-
-// The geometry of a kind of piece.
-#[derive(Clone, Copy)]
-enum Listed {
-    Of(Geometry),
-    Unlisted,
-}
+use crate::give::give;
+use answers::RLNCError;
+use stream::{Geometry, Record};
 
 // What has been seen so far.
-#[derive(Clone, Copy)]
-enum Earlier {
-    Of(Seen),
-    Unlisted,
-}
-
-fn of_kind(kind: u8) -> Listed
-    ensures { result ≡ listed_in (geometry_of kind) }
-{
-    match kind {
-        0x11 => Listed::Of(Geometry::Of3By2),
-        0x12 => Listed::Of(Geometry::Of16By240),
-        0x13 => Listed::Of(Geometry::Of32By480),
-        _ => Listed::Unlisted,
-    }
-}
-
-fn seen_by(kind: u8) -> Earlier
+#[tactic(auto, using(crate::proofs::Streams::listed), unfolding(crate::specs::Streams::earlier_of, crate::specs::Streams::seen_before))]
+fn seen_by(kind: u8) -> Result<Option<Geometry>, RLNCError>
     ensures { result ≡ earlier_of kind }
 {
     if kind == 0 {
-        return Earlier::Of(Seen::Nothing);
+        return Ok(None);
     }
-    let Listed::Of(g) = of_kind(kind) else {
-        return Earlier::Unlisted;
-    };
-    Earlier::Of(Seen::Pieces(g))
+    match Geometry::try_from(kind) {
+        Ok(g) => Ok(Some(g)),
+        Err(_) => Err(RLNCError::BadState),
+    }
 }
 
-// The record's kind, and its answer's number.
-fn give_record(found: Record, kind: &mut u8) -> u8
-    ensures { RecordGiven found kind.old result kind.new }
+// The kind of a record.
+fn kind_in(found: Record) -> u8
+    ensures { result ≡ kind_in found }
 {
     match found {
-        Record::Piece(g) => {
-            *kind = g.kind();
-            Answer::Ok.number()
-        }
-        Record::End => {
-            *kind = 0x01;
-            Answer::Ok.number()
-        }
-        Record::Refused(a) => a.number(),
+        Record::Piece(g) => g.kind(),
+        Record::End => 0x01,
     }
+}
+
+// The record's kind, and the result's number.
+fn give_record(found: Result<Record, RLNCError>, kind: &mut u8) -> u8
+    ensures { RecordGiven found kind.old result kind.new }
+{
+    give(found.map(kind_in), kind)
 }
 
 pub fn rlnc_stream_read_kind(so_far: u8, next: u8, behind: usize, kind: &mut u8) -> u8
     ensures { RecordGiven (read_by (λ s. kind_record s next behind) (earlier_of so_far)) kind.old result kind.new }
 {
-    let Earlier::Of(seen) = seen_by(so_far) else {
-        return Answer::BadState.number();
-    };
-    give_record(stream::read_kind(seen, next, behind), kind)
+    let found = seen_by(so_far).and_then(|seen| stream::read_kind(seen, next, behind));
+    give_record(found, kind)
 }
 
 pub fn rlnc_stream_read(so_far: u8, bytes: &[u8], kind: &mut u8) -> u8
     ensures { RecordGiven (read_by (λ s. record_at s bytes.now) (earlier_of so_far)) kind.old result kind.new }
 {
-    let Earlier::Of(seen) = seen_by(so_far) else {
-        return Answer::BadState.number();
-    };
-    give_record(stream::read(seen, bytes), kind)
+    let found = seen_by(so_far).and_then(|seen| stream::read(seen, bytes));
+    give_record(found, kind)
 }
 
+#[tactic(auto, using(crate::proofs::Streams::listed), unfolding(crate::specs::Streams::kind_refusal, crate::specs::Streams::record_of))]
 pub fn rlnc_stream_write(kind: u8, piece: &[u8], out: &mut [u8]) -> u8
-    ensures { PieceWritten (listed_in (geometry_of kind)) piece.now out.old result out.new }
+    ensures { PieceWritten (geometry_of kind) piece.now out.old result out.new }
 {
-    let Listed::Of(g) = of_kind(kind) else {
-        return Answer::UnknownKind.number();
-    };
-    stream::write(g, piece, out).number()
+    match Geometry::try_from(kind) {
+        Ok(g) => answers::number(stream::write(g, piece, out)),
+        Err(e) => e.number(),
+    }
 }
 
 // k and L of a kind of piece; a whole piece is as many bytes as both together.
+#[tactic(auto, using(crate::proofs::Streams::listed), unfolding(crate::specs::Streams::sizes_number, crate::specs::Streams::size_or))]
 pub fn rlnc_stream_sizes(kind: u8, piece_count: &mut usize, piece_byte_len: &mut usize) -> u8
-    ensures { SizesGiven (listed_in (geometry_of kind)) piece_count.old piece_byte_len.old result piece_count.new piece_byte_len.new }
+    ensures { SizesGiven (geometry_of kind) piece_count.old piece_byte_len.old result piece_count.new piece_byte_len.new }
 {
-    let Listed::Of(g) = of_kind(kind) else {
-        return Answer::UnknownKind.number();
-    };
-    *piece_count = g.piece_count();
-    *piece_byte_len = g.piece_byte_len();
-    Answer::Ok.number()
+    match Geometry::try_from(kind) {
+        Ok(g) => {
+            *piece_count = g.piece_count();
+            *piece_byte_len = g.piece_byte_len();
+            0
+        }
+        Err(e) => e.number(),
+    }
 }

@@ -1,5 +1,5 @@
 // The recoder: the numbers `num_pieces_received`, `full_coded_piece_byte_len` and `num_pieces_coded_together`, beside the lent pieces.
-ghost use Rattle.std.specs.Prelude.{◌-◌, length};
+ghost use Rattle.std.specs.Prelude.{◌≡◌, ◌-◌, length};
 ghost use Rattle.gf256.proofs.Known.{fips};
 ghost use Rattle.block.specs.Counts.{counted};
 ghost use Rattle.recoder.specs.Entries.{sound, recode_refusal, Recoded};
@@ -7,10 +7,24 @@ ghost use Rattle.rlnc.specs.Numbered.{Numbered};
 ghost use Rattle.rlnc.specs.Given.{CountGiven};
 ghost use Rattle.rlnc.specs.Records.{recoder_of, RecoderMade};
 
-use crate::give::give_count;
-use answers::Answer;
+use crate::give::give;
 use field::Field;
-use recoder::{Made, Recoder};
+use recoder::Recoder;
+
+// The record of these numbers.
+fn recoder_of(
+    num_pieces_received: usize,
+    full_coded_piece_byte_len: usize,
+    num_pieces_coded_together: usize,
+) -> Recoder
+    ensures { result ≡ recoder_of num_pieces_received full_coded_piece_byte_len num_pieces_coded_together }
+{
+    Recoder {
+        num_pieces_received,
+        full_coded_piece_byte_len,
+        num_pieces_coded_together,
+    }
+}
 
 pub fn rlnc_recoder_new(
     data: &[u8],
@@ -21,13 +35,7 @@ pub fn rlnc_recoder_new(
     ensures { RecoderMade (length «data».now) full_coded_piece_byte_len num_pieces_coded_together num_pieces_received.old result num_pieces_received.new }
 {
     let made = Recoder::new(data, full_coded_piece_byte_len, num_pieces_coded_together);
-    match made {
-        Made::Of(d) => {
-            *num_pieces_received = d.num_pieces_received;
-            Answer::Ok.number()
-        }
-        Made::Refused(a) => a.number(),
-    }
+    give(made.map(|d| d.num_pieces_received), num_pieces_received)
 }
 
 pub fn rlnc_recoder_get_original_num_pieces_coded_together(
@@ -38,12 +46,12 @@ pub fn rlnc_recoder_get_original_num_pieces_coded_together(
 ) -> u8
     ensures { CountGiven (counted (sound (recoder_of num_pieces_received full_coded_piece_byte_len num_pieces_coded_together)) num_pieces_coded_together) count.old result count.new }
 {
-    let recoder = Recoder {
+    let recoder = recoder_of(
         num_pieces_received,
         full_coded_piece_byte_len,
         num_pieces_coded_together,
-    };
-    give_count(recoder.get_original_num_pieces_coded_together(), count)
+    );
+    give(recoder.get_original_num_pieces_coded_together(), count)
 }
 
 pub fn rlnc_recoder_get_num_pieces_recoded_together(
@@ -54,12 +62,12 @@ pub fn rlnc_recoder_get_num_pieces_recoded_together(
 ) -> u8
     ensures { CountGiven (counted (sound (recoder_of num_pieces_received full_coded_piece_byte_len num_pieces_coded_together)) num_pieces_received) count.old result count.new }
 {
-    let recoder = Recoder {
+    let recoder = recoder_of(
         num_pieces_received,
         full_coded_piece_byte_len,
         num_pieces_coded_together,
-    };
-    give_count(recoder.get_num_pieces_recoded_together(), count)
+    );
+    give(recoder.get_num_pieces_recoded_together(), count)
 }
 
 pub fn rlnc_recoder_get_piece_byte_len(
@@ -70,12 +78,12 @@ pub fn rlnc_recoder_get_piece_byte_len(
 ) -> u8
     ensures { CountGiven (counted (sound (recoder_of num_pieces_received full_coded_piece_byte_len num_pieces_coded_together)) (full_coded_piece_byte_len - num_pieces_coded_together)) count.old result count.new }
 {
-    let recoder = Recoder {
+    let recoder = recoder_of(
         num_pieces_received,
         full_coded_piece_byte_len,
         num_pieces_coded_together,
-    };
-    give_count(recoder.get_piece_byte_len(), count)
+    );
+    give(recoder.get_piece_byte_len(), count)
 }
 
 pub fn rlnc_recoder_get_full_coded_piece_byte_len(
@@ -86,12 +94,12 @@ pub fn rlnc_recoder_get_full_coded_piece_byte_len(
 ) -> u8
     ensures { CountGiven (counted (sound (recoder_of num_pieces_received full_coded_piece_byte_len num_pieces_coded_together)) full_coded_piece_byte_len) count.old result count.new }
 {
-    let recoder = Recoder {
+    let recoder = recoder_of(
         num_pieces_received,
         full_coded_piece_byte_len,
         num_pieces_coded_together,
-    };
-    give_count(recoder.get_full_coded_piece_byte_len(), count)
+    );
+    give(recoder.get_full_coded_piece_byte_len(), count)
 }
 
 pub fn rlnc_recoder_recode_with_buf(
@@ -104,12 +112,15 @@ pub fn rlnc_recoder_recode_with_buf(
 ) -> u8
     ensures { Numbered (λ a. Recoded fips (recoder_of num_pieces_received full_coded_piece_byte_len num_pieces_coded_together) pieces.now recoding_vector.now full_recoded_piece.old a full_recoded_piece.new) (recode_refusal (recoder_of num_pieces_received full_coded_piece_byte_len num_pieces_coded_together) (length pieces.now) (length recoding_vector.now) (length full_recoded_piece.old)) result }
 {
-    let recoder = Recoder {
+    let recoder = recoder_of(
         num_pieces_received,
         full_coded_piece_byte_len,
         num_pieces_coded_together,
-    };
-    recoder
-        .recode_with_buf(Field::Fips197, pieces, recoding_vector, full_recoded_piece)
-        .number()
+    );
+    answers::number(recoder.recode_with_buf(
+        Field::Fips197,
+        pieces,
+        recoding_vector,
+        full_recoded_piece,
+    ))
 }

@@ -3,9 +3,9 @@ ghost use Rattle.decoder.specs.Entries.{decoder_of};
 ghost use Rattle.rlnc.specs.Forms.{FormSaved, FormLoaded};
 
 use crate::decode::decoder_of;
-use answers::Answer;
-use stored::{Loaded, Saved};
+use crate::give::give;
 
+#[tactic(auto, using(crate::proofs::Forms::form_saved))]
 pub fn rlnc_stored_save(
     piece_byte_len: usize,
     required_piece_count: usize,
@@ -23,16 +23,10 @@ pub fn rlnc_stored_save(
         useful_piece_count,
         received_piece_count,
     );
-    let saved = stored::save(decoder, elements, form);
-    match saved {
-        Saved::Bytes(n) => {
-            *form_len = n;
-            Answer::Ok.number()
-        }
-        Saved::Refused(a) => a.number(),
-    }
+    give(stored::save(decoder, elements, form), form_len)
 }
 
+#[tactic(auto, unfolding(stored::specs::Entries::loaded_number))]
 pub fn rlnc_stored_load(
     form: &[u8],
     elements: &mut [u8],
@@ -43,15 +37,14 @@ pub fn rlnc_stored_load(
 ) -> u8
     ensures { FormLoaded form.now elements.old (decoder_of required_piece_count.old piece_byte_len.old useful_piece_count.old received_piece_count.old) result (decoder_of required_piece_count.new piece_byte_len.new useful_piece_count.new received_piece_count.new) elements.new }
 {
-    let loaded = stored::load(form, elements);
-    match loaded {
-        Loaded::Of(d) => {
+    match stored::load(form, elements) {
+        Ok(d) => {
             *piece_byte_len = d.piece_byte_len;
             *required_piece_count = d.required_piece_count;
             *useful_piece_count = d.useful_piece_count.0;
             *received_piece_count = d.received_piece_count.0;
-            Answer::Ok.number()
+            0
         }
-        Loaded::Refused(a) => a.number(),
+        Err(e) => e.number(),
     }
 }

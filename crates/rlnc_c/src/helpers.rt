@@ -1,6 +1,6 @@
 // Arithmetic of single bytes and of rows.
-ghost use Rattle.std.specs.Prelude.{◌≡◌, ◌*◌, leb, length};
-ghost use Rattle.answers.specs.declared.Answer.TheVariants.{Ok, BadState};
+ghost use Rattle.std.specs.Prelude.{◌≡◌, ◌*◌, leb, length, Ok, Err};
+ghost use Rattle.answers.specs.declared.RLNCError.TheVariants.{BadState};
 ghost use Rattle.linear.specs.Choice.{pick};
 ghost use Rattle.galois.specs.Quotient.{inverse_of, quotient_of};
 ghost use Rattle.gf256.proofs.Known.{fips};
@@ -73,7 +73,7 @@ pub extern "C" fn rlnc_mul_part_by_scalar_then_add_into_part(
 
 #[unsafe(no_mangle)]
 pub extern "C" fn rlnc_combine(rows: &[u8], numbers: &[u8], out: &mut [u8]) -> u8
-    ensures { Numbered (λ a. Combined fips rows.now numbers.now out.old a out.new) (pick (leb (length numbers.now * length out.old) (length rows.now)) Ok BadState) result }
+    ensures { Numbered (λ a. Combined fips rows.now numbers.now out.old a out.new) (pick (leb (length numbers.now * length out.old) (length rows.now)) (Ok tt) (Err BadState)) result }
 {
     rlnc::rlnc_combine(rows, numbers, out)
 }

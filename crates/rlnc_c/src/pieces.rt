@@ -2,7 +2,7 @@
 // there were none.
 ghost use Rattle.stream.specs.Geometries.{geometry_of};
 ghost use Rattle.stream.specs.Records.{kind_record, record_at};
-ghost use Rattle.rlnc.specs.Streams.{listed_in, earlier_of, read_by, RecordGiven, PieceWritten, SizesGiven};
+ghost use Rattle.rlnc.specs.Streams.{earlier_of, read_by, RecordGiven, PieceWritten, SizesGiven};
 
 #[unsafe(no_mangle)]
 pub extern "C" fn rlnc_stream_read_kind(so_far: u8, next: u8, behind: usize, kind: &mut u8) -> u8
@@ -20,7 +20,7 @@ pub extern "C" fn rlnc_stream_read(so_far: u8, bytes: &[u8], kind: &mut u8) -> u
 
 #[unsafe(no_mangle)]
 pub extern "C" fn rlnc_stream_write(kind: u8, piece: &[u8], out: &mut [u8]) -> u8
-    ensures { PieceWritten (listed_in (geometry_of kind)) piece.now out.old result out.new }
+    ensures { PieceWritten (geometry_of kind) piece.now out.old result out.new }
 {
     rlnc::rlnc_stream_write(kind, piece, out)
 }
@@ -32,7 +32,7 @@ pub extern "C" fn rlnc_stream_sizes(
     piece_count: &mut usize,
     piece_byte_len: &mut usize,
 ) -> u8
-    ensures { SizesGiven (listed_in (geometry_of kind)) piece_count.old piece_byte_len.old result piece_count.new piece_byte_len.new }
+    ensures { SizesGiven (geometry_of kind) piece_count.old piece_byte_len.old result piece_count.new piece_byte_len.new }
 {
     rlnc::rlnc_stream_sizes(kind, piece_count, piece_byte_len)
 }

@@ -1,16 +1,16 @@
 -- A combination bit by bit: a number is twice its half and its lowest bit, so a combination is x times that of the halves, plus the rows whose
 -- number is odd. Byte i of it is the numbers against column i.
 -- Assumes nothing.
-use mathlib.Core.Path.{◌≡◌, refl, sym, ap, ap₂, ◌∙◌}
+use mathlib.Core.Path.{◌≡◌, refl, sym, ap, ap₂, ◌∙◌, subst}
 use mathlib.Core.List.{List, [], ◌∷◌, map}
 use Prim.Native.Nat.{ℕ, zero, suc, ◌+◌, ◌*◌, ◌/◌, ◌%◌, ◌^◌, ◌≤◌, ◌<◌}
-use native.Mathlib.Nat.{zero-mul as nat-zero-mul, one-mul as nat-one-mul, pow-suc, zero-div, div-one, div-div-eq-div-mul, div-le_self}
+use native.Mathlib.Nat.{zero-mul as nat-zero-mul, one-mul as nat-one-mul, pow-suc, div-one, div-div-eq-div-mul, div-le_self}
 use native.Mathlib.Omega.{arith}
-use lib.ListN.{length, get_or, take, replicate, length-replicate, length-map}
-use lib.Seq.{ext_get_or, take_all}
+use lib.ListN.{length, get_or, drop, replicate, length-replicate}
+use lib.Seq.{ext_get_or, get_or-take, get_or-drop}
 use Rattle.galois.specs.Gf.{◌⊕◌}
 use Rattle.galois.specs.FieldLaws.{FieldLaws}
-use Rattle.galois.proofs.Sum.{⊕_zero, ⊕_assoc, ⊕_middle, ⊕_above, digit}
+use Rattle.galois.proofs.Sum.{⊕_middle, ⊕_above, digit}
 use Rattle.galois.proofs.Field.{mul_zero, zero_mul, one_mul, ⊕_mul}
 use Rattle.linear.specs.All.{All}
 use Rattle.linear.specs.Rows.{scale_row}
@@ -18,8 +18,7 @@ use Rattle.linear.specs.Buffer.{rows_of}
 use Rattle.linear.specs.Pieces.{column, dot, combine}
 use Rattle.linear.proofs.All.{zeros_entry}
 use Rattle.linear.proofs.Sums.{length_scale, scale_entry}
-use Rattle.linear.proofs.Blocks.{column_entry}
-use Rattle.linear.proofs.Buffer.{sizes_of, entry_at}
+use Rattle.linear.proofs.Buffer.{sizes_of}
 use Rattle.linear.proofs.Coding.{length_combine, combine_entry}
 use Rattle.rows.specs.Outcomes.{add_row}
 use Rattle.rows.specs.Chosen.{sum_chosen}
@@ -37,17 +36,6 @@ pub above_none : (cs : List ℕ) → above 0 cs ≡ cs
 above_none [] = refl
 above_none (c ∷ cs) = ap₂ (λ (n : ℕ) (l : List ℕ). n ∷ l) (div-one c) (above_none cs)
 
-bit_at : (b : ℕ) (cs : List ℕ) (j : ℕ) → get_or (bits b cs) j 0 ≡ get_or cs j 0 / 2 ^ b % 2
-bit_at b [] j = sym (ap (λ (n : ℕ). n % 2) (zero-div (2 ^ b)))
-bit_at b (c ∷ cs) zero = refl
-bit_at b (c ∷ cs) (suc j) = bit_at b cs j
-
-above_top : (cs : List ℕ) → ((i : ℕ) → get_or cs i 0 < 256) → above 7 cs ≡ bits 7 cs
-above_top [] h = refl
-above_top (c ∷ cs) h =
-    let top : c / 128 ≡ c / 128 % 2 = omega (arith, h 0) in
-    ap₂ (λ (n : ℕ) (l : List ℕ). n ∷ l) top (above_top cs (λ i. h (suc i)))
-
 module _ (𝓕 : FieldLaws) where
   by_half : (c y : ℕ) → c < 256 → 𝓕.mul c y ≡ 𝓕.mul 2 (𝓕.mul (c / 2) y) ⊕ 𝓕.mul (c % 2) y
   by_half c y h =
@@ -55,6 +43,15 @@ module _ (𝓕 : FieldLaws) where
       let low : c / 2 < 128 = omega arith in
       ap (λ (n : ℕ). 𝓕.mul n y) (parts ∙ sym (⊕_above (c / 2) 1 (c % 2) (digit c))) ∙ ⊕_mul 𝓕 (c / 2 * 2) (c % 2) y
       ∙ ap (λ (n : ℕ). n ⊕ 𝓕.mul (c % 2) y) (ap (λ (n : ℕ). 𝓕.mul n y) (sym (𝓕.mul_x (c / 2) low)) ∙ 𝓕.mul_assoc 2 (c / 2) y)
+
+  -- a byte has no bit behind the eighth
+  dot_above : (cs v : List ℕ) → ((i : ℕ) → get_or cs i 0 < 256) → dot 𝓕 (above 8 cs) v ≡ 0
+  unfolding dot
+  dot_above [] v h = refl
+  dot_above (c ∷ cs) [] h = refl
+  dot_above (c ∷ cs) (y ∷ v) h =
+      let none : c / 256 ≡ 0 = omega (arith, h 0) in
+      ap₂ (λ (m n : ℕ). m ⊕ n) (ap (λ (m : ℕ). 𝓕.mul m y) none ∙ zero_mul 𝓕 y) (dot_above cs v (λ i. h (suc i)))
 
   dot_half : (b : ℕ) (cs v : List ℕ) → ((i : ℕ) → get_or cs i 0 < 256)
       → dot 𝓕 (above b cs) v ≡ 𝓕.mul 2 (dot 𝓕 (above (suc b) cs) v) ⊕ dot 𝓕 (bits b cs) v
@@ -70,17 +67,6 @@ module _ (𝓕 : FieldLaws) where
       (sym (𝓕.mul_⊕ 2 (𝓕.mul (c / 2 ^ b / 2) y) (dot 𝓕 (above (suc b) cs) v))
       ∙ ap (λ (n : ℕ). 𝓕.mul 2 (𝓕.mul n y ⊕ dot 𝓕 (above (suc b) cs) v)) half)
 
-  -- one product more
-  dot_next : (j : ℕ) (u v : List ℕ) → dot 𝓕 (take (suc j) u) v ≡ dot 𝓕 (take j u) v ⊕ 𝓕.mul (get_or u j 0) (get_or v j 0)
-  unfolding dot
-  dot_next zero [] v = sym (zero_mul 𝓕 (get_or v 0 0))
-  dot_next (suc j) [] v = sym (zero_mul 𝓕 (get_or v (suc j) 0))
-  dot_next zero (x ∷ u) [] = sym (mul_zero 𝓕 x)
-  dot_next zero (x ∷ u) (y ∷ v) = ⊕_zero (𝓕.mul x y)
-  dot_next (suc j) (x ∷ u) [] = sym (mul_zero 𝓕 (get_or u j 0))
-  dot_next (suc j) (x ∷ u) (y ∷ v) =
-      ap (λ (n : ℕ). 𝓕.mul x y ⊕ n) (dot_next j u v) ∙ sym (⊕_assoc (𝓕.mul x y) (dot 𝓕 (take j u) v) (𝓕.mul (get_or u j 0) (get_or v j 0)))
-
   -- ---- the rows whose number has a bit
 
   digit_mul : (d x : ℕ) → d < 2 → x < 256 → d * x ≡ 𝓕.mul d x
@@ -88,49 +74,40 @@ module _ (𝓕 : FieldLaws) where
   digit_mul (suc zero) x h l = nat-one-mul x ∙ sym (one_mul 𝓕 x l)
   digit_mul (suc (suc d)) x h l = absurd (omega arith)
 
-  module _ (b n : ℕ) (cs buffer : List ℕ) (byte : (i : ℕ) → get_or buffer i 0 < 256) where
-    chosen_dot : (i j : ℕ) → i < n → j ≤ length cs
-        → sum_chosen b n cs buffer i j ≡ dot 𝓕 (take j (bits b cs)) (column i (rows_of n (length cs) buffer))
-    unfolding sum_chosen dot
-    chosen_dot i zero h k = refl
-    chosen_dot i (suc j) h k =
-        let rows : List (List ℕ) = rows_of n (length cs) buffer in
-        let number : get_or (bits b cs) j 0 ≡ get_or cs j 0 / 2 ^ b % 2 = bit_at b cs j in
-        let at : get_or (column i rows) j 0 ≡ get_or buffer (j * n + i) 0 = column_entry i rows j ∙ entry_at n (length cs) j i buffer k h in
-        ap₂ (λ (x y : ℕ). x ⊕ y) (chosen_dot i j h (omega arith))
-        (digit_mul (get_or cs j 0 / 2 ^ b % 2) (get_or buffer (j * n + i) 0) (digit (get_or cs j 0 / 2 ^ b)) (byte (j * n + i))
-        ∙ sym (ap₂ (λ (x y : ℕ). 𝓕.mul x y) number at))
-        ∙ sym (dot_next j (bits b cs) (column i rows))
+  module _ (b n : ℕ) where
+    chosen_dot : (i : ℕ) → i < n → (cs buffer : List ℕ) → ((k : ℕ) → get_or buffer k 0 < 256)
+        → sum_chosen b n cs buffer i ≡ dot 𝓕 (bits b cs) (column i (rows_of n (length cs) buffer))
+    unfolding sum_chosen dot column rows_of
+    chosen_dot i h [] buffer byte = refl
+    chosen_dot i h (c ∷ cs) buffer byte =
+        ap₂ (λ (x y : ℕ). x ⊕ y)
+        (digit_mul (c / 2 ^ b % 2) (get_or buffer i 0) (digit (c / 2 ^ b)) (byte i)
+        ∙ ap (𝓕.mul (c / 2 ^ b % 2)) (sym (get_or-take n buffer i 0 h)))
+        (chosen_dot i h cs (drop n buffer) (λ k. subst (λ (x : ℕ). x < 256) (sym (get_or-drop n buffer k 0)) (byte (n + k))))
 
     -- bytes that have all of them added
-    pub chosen_all : (old : List ℕ) {now : List ℕ} → length cs * n ≤ length buffer → length old ≡ n → length now ≡ n
-        → ((i : ℕ) → i < n → get_or now i 0 ≡ get_or old i 0 ⊕ sum_chosen b n cs buffer i (length cs))
+    pub chosen_all : (cs buffer old : List ℕ) {now : List ℕ} → ((k : ℕ) → get_or buffer k 0 < 256) → length cs * n ≤ length buffer
+        → length old ≡ n → length now ≡ n
+        → ((i : ℕ) → i < n → get_or now i 0 ≡ get_or old i 0 ⊕ sum_chosen b n cs buffer i)
         → now ≡ add_row (combine 𝓕 n (bits b cs) (rows_of n (length cs) buffer)) old
-    chosen_all old {now} fit lo ln f =
+    chosen_all cs buffer old {now} byte fit lo ln f =
         let rows : List (List ℕ) = rows_of n (length cs) buffer in
         let sum : List ℕ = combine 𝓕 n (bits b cs) rows in
         let wide : length sum ≡ n = length_combine 𝓕 n (bits b cs) rows in
-        let all : length (bits b cs) ≤ length cs = omega (arith, length-map cs (λ m. m / 2 ^ b % 2)) in
         ext_get_or 0 now (add_row sum old) (ln ∙ sym (length_sum sum old ∙ lo)) (λ i h.
         let k : i < n = omega arith in
         f i k
         ∙ ap (λ (x : ℕ). get_or old i 0 ⊕ x)
-        (chosen_dot i (length cs) k (omega arith) ∙ ap (λ (l : List ℕ). dot 𝓕 l (column i rows)) (take_all (length cs) (bits b cs) all)
-        ∙ sym (combine_entry 𝓕 n (bits b cs) rows (sizes_of n (length cs) buffer fit) i))
+        (chosen_dot i k cs buffer byte ∙ sym (combine_entry 𝓕 n (bits b cs) rows (sizes_of n (length cs) buffer fit) i))
         ∙ sym (get_or_sum sum old i (omega arith) (omega arith)))
 
   -- ---- the loop over bits
 
   module _ (n : ℕ) (cs : List ℕ) (rows : List (List ℕ)) (small : (i : ℕ) → get_or cs i 0 < 256) (s : All (λ r. length r ≡ n) rows) where
-    first_bit : add_row (combine 𝓕 n (bits 7 cs) rows) (replicate n 0) ≡ combine 𝓕 n (above 7 cs) rows
-    first_bit =
-        let top : List ℕ = combine 𝓕 n (above 7 cs) rows in
-        let lt : length top ≡ n = length_combine 𝓕 n (above 7 cs) rows in
-        let lz : length {A = ℕ} (replicate n 0) ≡ n = length-replicate n 0 in
-        ap (λ (l : List ℕ). add_row (combine 𝓕 n l rows) (replicate n 0)) (sym (above_top cs small))
-        ∙ ext_get_or 0 (add_row top (replicate n 0)) top (length_sum top (replicate n 0) ∙ lz ∙ sym lt) (λ i h.
-        let k : i < length {A = ℕ} (replicate n 0) = omega (arith, length_sum top (replicate n 0)) in
-        get_or_sum top (replicate n 0) i (omega arith) k ∙ ap (λ (x : ℕ). x ⊕ get_or top i 0) (zeros_entry n i))
+    no_bit : combine 𝓕 n (above 8 cs) rows ≡ replicate n 0
+    no_bit =
+        ext_get_or 0 (combine 𝓕 n (above 8 cs) rows) (replicate n 0) (length_combine 𝓕 n (above 8 cs) rows ∙ sym (length-replicate n 0)) (λ i h.
+        combine_entry 𝓕 n (above 8 cs) rows s i ∙ dot_above cs (column i rows) small ∙ sym (zeros_entry n i))
 
     next_bit : (b : ℕ)
         → add_row (combine 𝓕 n (bits b cs) rows) (scale_row 𝓕 2 (combine 𝓕 n (above (suc b) cs) rows)) ≡ combine 𝓕 n (above b cs) rows
@@ -152,12 +129,9 @@ module _ (𝓕 : FieldLaws) where
         → last ≡ add_row (combine 𝓕 n (bits b cs) (rows_of n m buffer)) old
     widen b old l e = e ∙ ap (λ (w : ℕ). add_row (combine 𝓕 w (bits b cs) (rows_of w m buffer)) old) l
 
-    -- the highest bit, added to zeros
-    pub begun : (clear : List ℕ) {last : List ℕ} → clear ≡ replicate n 0
-        → last ≡ add_row (combine 𝓕 (length clear) (bits 7 cs) (rows_of (length clear) m buffer)) clear → last ≡ combine 𝓕 n (above 7 cs) (rows_of n m buffer)
-    begun clear z e =
-        widen 7 clear (ap length z ∙ length-replicate n 0) e ∙ ap (add_row (combine 𝓕 n (bits 7 cs) (rows_of n m buffer))) z
-        ∙ first_bit n cs (rows_of n m buffer) small (sizes_of n m buffer fit)
+    -- no bit yet
+    pub begun : {clear : List ℕ} → clear ≡ replicate n 0 → clear ≡ combine 𝓕 n (above 8 cs) (rows_of n m buffer)
+    begun z = z ∙ sym (no_bit n cs (rows_of n m buffer) small (sizes_of n m buffer fit))
 
     -- the next bit, added to x times what the higher ones made
     pub grown : (b : ℕ) (old twice : List ℕ) {last : List ℕ} → old ≡ combine 𝓕 n (above (suc b) cs) (rows_of n m buffer) → twice ≡ scale_row 𝓕 2 old

@@ -1,30 +1,22 @@
--- The outcome of combining by its test, the one where the rows are there and the refusal; and two that meet the record are equal.
+-- What a caller whose buffer holds the rows learns of combining; and two outcomes that meet the record are equal.
 -- Assumes nothing.
-use mathlib.Core.Path.{◌≡◌, refl, sym, ◌∙◌}
-use mathlib.Core.Bool.{true, false}
+use mathlib.Core.Path.{◌≡◌, sym, ◌∙◌}
+use mathlib.Core.Bool.{true}
 use mathlib.Core.List.{List}
 use Prim.Native.Nat.{ℕ, ◌*◌, ◌≤◌}
 use lib.Dec.{leb}
 use lib.ListN.{length}
 use borrow.Author.Tests.{le-leb}
-use Rattle.answers.specs.declared.Answer.{Answer}
-use Rattle.answers.specs.declared.Answer.TheVariants.{Ok, BadState}
+use Rattle.std.specs.Prelude.{Ok}
+use Rattle.answers.specs.Number.{Answer}
 use Rattle.galois.specs.FieldLaws.{FieldLaws}
 use Rattle.linear.specs.Buffer.{rows_of}
 use Rattle.linear.specs.Pieces.{combine}
 use Rattle.rows.specs.Combining.{Combined}
 
 module _ {𝓕 : FieldLaws} {rows numbers out : List ℕ} where
-  pub combine_refused : leb (length numbers * length out) (length rows) ≡ false → Combined 𝓕 rows numbers out BadState out
-  combine_refused n = record { answer = rw n refl; left = rw n refl }
-
-  pub combine_made : {last : List ℕ} → leb (length numbers * length out) (length rows) ≡ true
-      → last ≡ combine 𝓕 (length out) numbers (rows_of (length out) (length numbers) rows) → Combined 𝓕 rows numbers out Ok last
-  combine_made e l = record { answer = rw e refl; left = rw e l }
-
-  -- what a caller whose buffer holds the rows learns
   pub combined : {r : Answer} {last : List ℕ} → Combined 𝓕 rows numbers out r last → length numbers * length out ≤ length rows
-      → (r ≡ Ok) × (last ≡ combine 𝓕 (length out) numbers (rows_of (length out) (length numbers) rows))
+      → (r ≡ Ok tt) × (last ≡ combine 𝓕 (length out) numbers (rows_of (length out) (length numbers) rows))
   combined x h =
       let t : leb (length numbers * length out) (length rows) ≡ true = le-leb _ _ h in
       (rw t at x.answer, rw t at x.left)

@@ -3,7 +3,6 @@ pub mod RowLaws
 pub mod PartLaws
 pub mod Outcomes
 pub mod OneResult
-pub mod Zero
 pub mod ChosenLaws
 pub mod CombineLaws
 pub mod Combined

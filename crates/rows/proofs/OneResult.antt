@@ -3,7 +3,7 @@
 use mathlib.Core.Path.{◌≡◌, sym, ◌∙◌}
 use mathlib.Core.List.{List}
 use Prim.Native.Nat.{ℕ}
-use Rattle.answers.specs.declared.Answer.{Answer}
+use Rattle.answers.specs.Number.{Answer}
 use Rattle.galois.specs.FieldLaws.{FieldLaws}
 use Rattle.rows.specs.declared.Parts.{Parts}
 use Rattle.rows.specs.Outcomes.{Scaled, Summed, Added, PartAdded}

@@ -32,14 +32,6 @@ module _ (𝓕 : FieldLaws) where
   length_added q (s ∷ src) [] = refl
   length_added q (s ∷ src) (d ∷ dst) = ap suc (length_added q src dst)
 
-  pub get_or_added : (q : ℕ) (src dst : List ℕ) (i : ℕ) → i < length src → i < length dst
-      → get_or (add_multiple 𝓕 q src dst) i 0 ≡ get_or dst i 0 ⊕ 𝓕.mul q (get_or src i 0)
-  unfolding add_multiple
-  get_or_added q [] dst i h k = absurd (not-suc-le-zero h)
-  get_or_added q (s ∷ src) [] i h k = absurd (not-suc-le-zero k)
-  get_or_added q (s ∷ src) (d ∷ dst) zero h k = refl
-  get_or_added q (s ∷ src) (d ∷ dst) (suc i) h k = get_or_added q src dst i (le_of_suc-le-suc h) (le_of_suc-le-suc k)
-
   pub added_zero : (src dst : List ℕ) → add_multiple 𝓕 0 src dst ≡ dst
   unfolding add_multiple
   added_zero [] dst = refl
@@ -50,12 +42,6 @@ module _ (𝓕 : FieldLaws) where
   unfolding scale_row
   length_scaled q [] = refl
   length_scaled q (x ∷ xs) = ap suc (length_scaled q xs)
-
-  pub get_or_scaled : (q : ℕ) (xs : List ℕ) (i : ℕ) → i < length xs → get_or (scale_row 𝓕 q xs) i 0 ≡ 𝓕.mul q (get_or xs i 0)
-  unfolding scale_row
-  get_or_scaled q [] i h = absurd (not-suc-le-zero h)
-  get_or_scaled q (x ∷ xs) zero h = refl
-  get_or_scaled q (x ∷ xs) (suc i) h = get_or_scaled q xs i (le_of_suc-le-suc h)
 
   pub scaled_zero : (xs : List ℕ) → replicate (length xs) 0 ≡ scale_row 𝓕 0 xs
   unfolding scale_row

@@ -1,7 +1,7 @@
 -- What each row helper answers, and the bytes that it leaves behind.
-use Rattle.std.specs.Prelude.{◌≡◌, List, [], ◌∷◌, ℕ, eqb, length}
-use Rattle.answers.specs.declared.Answer.{Answer}
-use Rattle.answers.specs.declared.Answer.TheVariants.{Ok, InvalidPieceLength, BadState}
+use Rattle.std.specs.Prelude.{◌≡◌, List, [], ◌∷◌, ℕ, eqb, length, Ok, Err}
+use Rattle.answers.specs.Number.{Answer}
+use Rattle.answers.specs.declared.RLNCError.TheVariants.{InvalidPieceLength, BadState}
 use Rattle.galois.specs.Gf.{◌⊕◌}
 use Rattle.galois.specs.FieldLaws.{FieldLaws}
 use Rattle.linear.specs.Choice.{pick}
@@ -15,10 +15,6 @@ add_row [] dst = dst
 add_row (s ∷ src) [] = []
 add_row (s ∷ src) (d ∷ dst) = (d ⊕ s) ∷ add_row src dst
 
--- the part at `to` plus the part at `from`
-abbrev pub summed_part : Parts → List ℕ → List ℕ
-summed_part p b = put_part p.to p.len (add_row (part_at p.from p.len b) (part_at p.to p.len b)) b
-
 -- the part at `to` plus q times the part at `from`
 abbrev pub added_part : FieldLaws → ℕ → Parts → List ℕ → List ℕ
 added_part 𝓕 q p b =
@@ -26,11 +22,11 @@ added_part 𝓕 q p b =
 
 -- rows of unequal lengths are refused
 abbrev pub lengths_answer : List ℕ → List ℕ → Answer
-lengths_answer src dst = pick (eqb (length dst) (length src)) Ok InvalidPieceLength
+lengths_answer src dst = pick (eqb (length dst) (length src)) (Ok tt) (Err InvalidPieceLength)
 
 -- parts that do not lie in the buffer, or overlap, are refused
 abbrev pub parts_answer : Parts → List ℕ → Answer
-parts_answer p buffer = pick (lie_apart p (length buffer)) Ok BadState
+parts_answer p buffer = pick (lie_apart p (length buffer)) (Ok tt) (Err BadState)
 
 -- a row times q
 pub record Scaled (𝓕 : FieldLaws) (q : ℕ) (row last : List ℕ) : Type 0 where

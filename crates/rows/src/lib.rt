@@ -8,9 +8,9 @@ ghost use Rattle.galois.specs.Multiples.{multiples_of};
 ghost use Rattle.field.specs.FieldOf.{field_of};
 ghost use Rattle.linear.specs.Rows.{all_zero, add_multiple, scale_row};
 ghost use Rattle.rows.specs.Parts.{lie_apart};
-ghost use Rattle.rows.specs.Outcomes.{add_row, summed_part, added_part, Scaled, Summed, Added, PartAdded};
+ghost use Rattle.rows.specs.Outcomes.{add_row, Scaled, Summed, Added, PartAdded};
 
-use answers::Answer;
+use answers::{Answer, RLNCError};
 use field::Field;
 
 mod combining;
@@ -33,10 +33,10 @@ pub fn inplace_add_vectors(vec_dst: &mut [u8], vec_src: &[u8]) -> Answer
     ensures { Summed vec_src.now vec_dst.old result vec_dst.new }
 {
     if vec_dst.len() != vec_src.len() {
-        return Answer::InvalidPieceLength;
+        return Err(RLNCError::InvalidPieceLength);
     }
     add_row(vec_dst, vec_src);
-    Answer::Ok
+    Ok(())
 }
 
 // Each byte of mul_vec times the scalar added to that of add_into_vec at its place.
@@ -49,14 +49,14 @@ pub fn mul_vec_by_scalar_then_add_into_vec(
     ensures { Added (field_of f) scalar mul_vec.now add_into_vec.old result add_into_vec.new }
 {
     if add_into_vec.len() != mul_vec.len() {
-        return Answer::InvalidPieceLength;
+        return Err(RLNCError::InvalidPieceLength);
     }
     match scalar {
         0 => {}
         1 => add_row(add_into_vec, mul_vec),
         _ => add_multiple(f, add_into_vec, mul_vec, scalar),
     }
-    Answer::Ok
+    Ok(())
 }
 
 // Two parts of one buffer, len bytes each.
@@ -72,16 +72,8 @@ impl Parts {
     fn lie_apart(self, n: usize) -> bool
         ensures { result ≡ lie_apart self n }
     {
-        let from = self.from;
-        let to = self.to;
-        let len = self.len;
-        if n < len || n - len < from || n - len < to {
-            return false;
-        }
-        if from <= to {
-            return len <= to - from;
-        }
-        len <= from - to
+        let Parts { from, to, len } = self;
+        len <= n && from <= n - len && to <= n - len && len <= from.abs_diff(to)
     }
 }
 
@@ -96,63 +88,50 @@ pub fn mul_part_by_scalar_then_add_into_part(
     ensures { PartAdded (field_of f) scalar parts buffer.old result buffer.new }
 {
     if !parts.lie_apart(buffer.len()) {
-        return Answer::BadState;
+        return Err(RLNCError::BadState);
     }
-    if scalar == 0 {
-        return Answer::Ok;
+    let Parts { from, to, len } = parts;
+    if from < to {
+        let (front, back) = buffer.split_at_mut(to);
+        let target = &mut back[..len];
+        mul_vec_by_scalar_then_add_into_vec(f, target, &front[from..from + len], scalar)
+    } else {
+        let (front, back) = buffer.split_at_mut(from);
+        let target = &mut front[to..to + len];
+        mul_vec_by_scalar_then_add_into_vec(f, target, &back[..len], scalar)
     }
-    if scalar == 1 {
-        add_part(buffer, parts);
-        return Answer::Ok;
-    }
-    add_multiple_of_part(f, buffer, parts, scalar);
-    Answer::Ok
 }
 
 // Zeros, all of it.
 pub fn clear(vec: &mut [u8])
     ensures { vec.new ≡ replicate (length vec.old) 0 }
 {
-    let mut i = 0;
-    while i < vec.len() {
-        vec[i] = 0;
-        i += 1;
-    }
+    vec.fill(0);
 }
 
 // Whether every byte is 0.
 pub fn is_zero(part: &[u8]) -> bool
     ensures { result ≡ all_zero part.now }
 {
-    let mut i = 0;
-    while i < part.len() {
-        if part[i] != 0 {
-            return false;
-        }
-        i += 1;
-    }
-    true
+    part.iter().all(|b| *b == 0)
 }
 
 fn scale(f: Field, vec: &mut [u8], q: u8)
     ensures { vec.new ≡ scale_row (field_of f) q vec.old }
 {
     let m = f.multiples(q);
-    let mut i = 0;
-    while i < vec.len() {
-        vec[i] = sum_chosen(m, vec[i]);
-        i += 1;
+    for b in vec.iter_mut() {
+        *b = sum_chosen(m, *b);
     }
 }
 
+// The loops that read a second row go by the index. tried: zip; after it a proof knows nothing of the bytes that were written through iter_mut.
 fn add_row(dst: &mut [u8], src: &[u8])
     requires { length dst.old ≡ length src.now }
     ensures { dst.new ≡ add_row src.now dst.old }
 {
-    let mut i = 0;
-    while i < dst.len() {
-        dst[i] = dst[i] ^ src[i];
-        i += 1;
+    for (i, b) in dst.iter_mut().enumerate() {
+        *b ^= src[i];
     }
 }
 
@@ -161,39 +140,8 @@ fn add_multiple(f: Field, dst: &mut [u8], src: &[u8], q: u8)
     ensures { dst.new ≡ add_multiple (field_of f) q src.now dst.old }
 {
     let m = f.multiples(q);
-    let mut i = 0;
-    while i < dst.len() {
-        dst[i] = dst[i] ^ sum_chosen(m, src[i]);
-        i += 1;
-    }
-}
-
-fn add_part(buffer: &mut [u8], p: Parts)
-    requires { lie_apart p (length buffer.old) ≡ true }
-    ensures { buffer.new ≡ summed_part p buffer.old }
-{
-    let from = p.from;
-    let to = p.to;
-    let len = p.len;
-    let mut i = 0;
-    while i < len {
-        buffer[to + i] = buffer[to + i] ^ buffer[from + i];
-        i += 1;
-    }
-}
-
-fn add_multiple_of_part(f: Field, buffer: &mut [u8], p: Parts, q: u8)
-    requires { lie_apart p (length buffer.old) ≡ true }
-    ensures { buffer.new ≡ added_part (field_of f) q p buffer.old }
-{
-    let from = p.from;
-    let to = p.to;
-    let len = p.len;
-    let m = f.multiples(q);
-    let mut i = 0;
-    while i < len {
-        buffer[to + i] = buffer[to + i] ^ sum_chosen(m, buffer[from + i]);
-        i += 1;
+    for (i, b) in dst.iter_mut().enumerate() {
+        *b ^= sum_chosen(m, src[i]);
     }
 }
 
@@ -202,14 +150,13 @@ fn add_multiple_of_part(f: Field, buffer: &mut [u8], p: Parts, q: u8)
 fn sum_chosen(m: [u8; 8], b: u8) -> u8
     ensures { (𝓕 : FieldLaws) (q : ℕ) → m ≡ multiples_of 𝓕 q → result ≡ 𝓕.mul q b }
 {
-    chosen_by(b, m[0])
-        ^ chosen_by(b / 2, m[1])
-        ^ chosen_by(b / 4, m[2])
-        ^ chosen_by(b / 8, m[3])
-        ^ chosen_by(b / 16, m[4])
-        ^ chosen_by(b / 32, m[5])
-        ^ chosen_by(b / 64, m[6])
-        ^ chosen_by(b / 128, m[7])
+    let mut sum = 0;
+    let mut bits = b;
+    for x in m {
+        sum ^= chosen_by(bits, x);
+        bits /= 2;
+    }
+    sum
 }
 
 // m where the lowest bit of b is set.

@@ -1,27 +1,13 @@
 // The words of the call. What a user types is the wrapper's to read.
 
+use super::failure::Failure;
 use std::env::{Env, FillError};
 
-// The listing, the data alone, or words that are not known.
+// The listing, or the data alone.
 #[derive(Clone, Copy)]
 pub(crate) enum Call {
     Listing,
     Data,
-    Unknown,
-}
-
-fn same(a: &[u8], b: &[u8]) -> bool {
-    if a.len() != b.len() {
-        return false;
-    }
-    let mut i = 0;
-    while i < a.len() {
-        if a[i] != b[i] {
-            return false;
-        }
-        i += 1;
-    }
-    true
 }
 
 // Longer words than this are not known.
@@ -30,17 +16,14 @@ const WORD_LEN: usize = 4096;
 fn is_word(rt: &HostRuntime, i: usize, word: &[u8]) -> bool {
     let mut buf = [0u8; WORD_LEN];
     match rt.arg(i, &mut buf) {
-        Ok(n) => same(&buf[..n], word),
+        Ok(n) => &buf[..n] == word,
         Err(_) => false,
     }
 }
 
 fn is_given(rt: &HostRuntime, i: usize) -> bool {
     let mut buf = [0u8; WORD_LEN];
-    match rt.arg(i, &mut buf) {
-        Err(FillError::NotPresent) => false,
-        _ => true,
-    }
+    !matches!(rt.arg(i, &mut buf), Err(FillError::NotPresent))
 }
 
 // Whether the status is to be reported on descriptor 3, which the first word says.
@@ -49,15 +32,12 @@ pub(crate) fn asks_status(rt: &HostRuntime) -> bool {
 }
 
 // What is asked for by the words from this one on.
-pub(crate) fn read(rt: &HostRuntime, first: usize) -> Call {
+pub(crate) fn read(rt: &HostRuntime, first: usize) -> Result<Call, Failure> {
     if !is_given(rt, first) {
-        return Call::Listing;
+        return Ok(Call::Listing);
     }
-    if is_given(rt, first.saturating_add(1)) {
-        return Call::Unknown;
+    if !is_given(rt, first.saturating_add(1)) && is_word(rt, first, b"--data") {
+        return Ok(Call::Data);
     }
-    if is_word(rt, first, b"--data") {
-        return Call::Data;
-    }
-    Call::Unknown
+    Err(Failure::Words)
 }

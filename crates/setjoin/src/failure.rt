@@ -1,8 +1,17 @@
-// The words for a read or a write that failed.
+// What ends a call early, with status 2, and the words for a read or a write that failed.
 
 use arrayvec::ArrayString;
 use std::fmt::Write;
 use std::io;
+
+// Words that are not known; an input past 2^64 bytes; or standard output or standard error, which could not be written.
+#[derive(Drop)]
+pub(crate) enum Failure {
+    Words,
+    TooLong,
+    Output(io::Error),
+    Errors(io::Error),
+}
 
 const REASON_LEN: usize = 256;
 

@@ -11,11 +11,13 @@ use lib.Dec.{ltb}
 use lib.ListN.{length, get_or, take, drop, replicate, length-append, length-drop, take-append-drop}
 use lib.Seq.{take_at, drop_at, take-add, take-append-le, length-take-le}
 use borrow.Author.Tests.{le-ltb, ltb-false, le-leb, not-false}
+use Rattle.std.specs.Prelude.{Some, Result, Ok}
+use Rattle.answers.specs.declared.RLNCError.{RLNCError}
 use Rattle.linear.specs.All.{Bytes}
 use Rattle.linear.specs.Rows.{all_zero}
 use Rattle.linear.specs.Buffer.{rows_of, flat, holding}
 use Rattle.linear.proofs.All.{bytes_at}
-use Rattle.linear.proofs.Buffer.{length_rows_of, length_part, sizes_of as widths_of}
+use Rattle.linear.proofs.Buffer.{length_rows_of, sizes_of as widths_of}
 use Rattle.linear.proofs.Flat.{rows_flat}
 use Rattle.block.specs.Sizes.{over_limit, sized}
 use Rattle.linear.proofs.Choice.{or_false}
@@ -25,16 +27,11 @@ use Rattle.stream.specs.Geometries.{pieces_of, length_of, body_of}
 use Rattle.decoder.specs.declared.Decoder.{Decoder}
 use Rattle.decoder.specs.Records.{k_of, l_of, f_of, rows_in, taken_by, sound, bad_state, held_rows}
 use Rattle.decoder.specs.Entries.{decoder_of}
-use Rattle.stored.specs.declared.Listed.TheVariants as listed
-use Rattle.stored.specs.declared.Saved.{Saved}
-use Rattle.stored.specs.declared.Saved.TheVariants as saved
-use Rattle.stored.specs.declared.Loaded.{Loaded}
-use Rattle.stored.specs.declared.Loaded.TheVariants as loaded
 use Rattle.stored.specs.Forms.{stored_kind, matrix_size, form_size, stored_geometry, form_of, form_rows, form_taken, form_matrix, form_decoder}
 use Rattle.stored.specs.Entries.{Saving, bad_form, Loading}
 use Rattle.decoder.proofs.Sound.{Holds, holds}
 use Rattle.stored.proofs.Numbers.{inside}
-use Rattle.stored.proofs.Forms.{kind_is, kind_of_lem, sizes_are, sizes_of, whole_matrix, held_bytes, held_room, length_matrix, length_form}
+use Rattle.stored.proofs.Forms.{kind_is, kind_of_lem, sizes_are, sizes_of, whole_matrix, held_bytes, held_room, length_matrix, length_form, matrix_long}
 use Rattle.stored.proofs.Entries.{saves, loads}
 use Rattle.stored.proofs.OneResult.{saved_once, loaded_once}
 use Rattle.stored.proofs.Outcomes.{WasSaved, was_saved, WasLoaded, was_loaded}
@@ -74,7 +71,7 @@ module _ (g : Geometry) (d : Decoder) (elements behind : List ℕ) (k_is : k_of 
   abbrev rest : List ℕ
   rest = replicate (matrix_size g - rows_in d * body_of g) 0
 
-  kind : stored_geometry (get_or form 0 0) ≡ listed.Of g
+  kind : stored_geometry (get_or form 0 0) ≡ Some g
   unfolding form_of
   kind = kind_of_lem g
 
@@ -129,13 +126,13 @@ module _ (g : Geometry) (d : Decoder) (elements behind : List ℕ) (k_is : k_of 
       ap (λ (c : ℕ). rows_of (f_of d) c (holding (k_of d) (f_of d) (held_rows d elements) matrix)) (sym held_count)
       ∙ rows_flat (f_of d) (held_rows d elements) _ (widths_of (f_of d) (rows_in d) elements (omega (arith, h.room, mul-le-mul_right (f_of d) h.numbers.rows_pieces)))
 
-module _ {d : Decoder} {elements out out' : List ℕ} {n : ℕ} (s : Saving d elements out (saved.Bytes n) out') where
+module _ {d : Decoder} {elements out out' : List ℕ} {n : ℕ} (s : Saving d elements out (Ok n) out') where
   it : WasSaved d elements out n out'
   it = was_saved d elements out n out' s
 
   -- what is saved loads back, whatever stands behind it: the same record, and a matrix of the held rows and then zeros
-  pub loads_back : (behind matrix matrix' : List ℕ) (r : Loaded) → k_of d * f_of d ≤ length matrix → Loading (take n out' ++ behind) matrix r matrix'
-      → (r ≡ loaded.Of d) × (matrix' ≡ holding (k_of d) (f_of d) (held_rows d elements) matrix)
+  pub loads_back : (behind matrix matrix' : List ℕ) (r : Result Decoder RLNCError) → k_of d * f_of d ≤ length matrix → Loading (take n out' ++ behind) matrix r matrix'
+      → (r ≡ Ok d) × (matrix' ≡ holding (k_of d) (f_of d) (held_rows d elements) matrix)
   loads_back behind matrix matrix' r room l =
       let g : Geometry = it.geometry in
       let (k_is, l_is) = sizes_are (k_of d) (l_of d) g it.sizes in
@@ -148,9 +145,9 @@ module _ {d : Decoder} {elements out out' : List ℕ} {n : ℕ} (s : Saving d el
       let fits : matrix_size g ≤ length matrix = subst (λ (m : ℕ). m ≤ length matrix) (whole_matrix g d elements k_is l_is) room in
       let (e, m) =
       loaded_once l'
-      (loads matrix (form_of g d elements ++ behind) (λ z. omega (arith, z, w)) g (kind g d elements behind k_is l_is h) w fits
+      (loads matrix (form_of g d elements ++ behind) (omega (arith, w)) g (kind g d elements behind k_is l_is h) w fits
       (fine g d elements behind k_is l_is h) refl) in
-      (e ∙ ap loaded.Of (decoder_is g d elements behind k_is l_is h), m ∙ filled g d elements behind k_is l_is h matrix)
+      (e ∙ ap Ok (decoder_is g d elements behind k_is l_is h), m ∙ filled g d elements behind k_is l_is h matrix)
 
   -- so the loaded decoder goes on where the saved one was: the same held rows, and as much of the matrix as a decoder reads is as if the dropped
   -- rows' area of the saved one had been cleared
@@ -180,7 +177,7 @@ first_four [] h = absurd (omega arith)
 first_four (a ∷ []) h = absurd (omega arith)
 first_four (a ∷ b ∷ []) h = absurd (omega arith)
 first_four (a ∷ b ∷ c ∷ []) h = absurd (omega arith)
-first_four (a ∷ b ∷ c ∷ d ∷ rest) h = refl
+first_four (a ∷ b ∷ c ∷ d ∷ _) h = refl
 
 module _ (g : Geometry) (form elements : List ℕ) (bytes : Bytes form) (w : form_size g ≤ length form) (bad : bad_form g form ≡ false) where
   abbrev rows : ℕ
@@ -193,8 +190,7 @@ module _ (g : Geometry) (form elements : List ℕ) (bytes : Bytes form) (w : for
   matrix = form_matrix g form ++ drop (matrix_size g) elements
 
   long : length (form_matrix g form) ≡ matrix_size g
-  unfolding form_matrix
-  long = length_part 4 (matrix_size g) form w
+  long = matrix_long g form w
 
   most : form_taken form ≤ 65535
   unfolding form_taken
@@ -238,15 +234,15 @@ module _ (g : Geometry) (form elements : List ℕ) (bytes : Bytes form) (w : for
       ∙ ap (λ (l : List ℕ). l ++ take (matrix_size g) (drop 4 form)) (sym (first_four form (omega arith))) ∙ sym (take-add 4 (matrix_size g) form)
 
 -- what loads saves back to the same bytes: the form, up to its size
-pub saves_back : {form elements matrix : List ℕ} {d : Decoder} → Bytes form → Loading form elements (loaded.Of d) matrix
-    → (out out' : List ℕ) (r : Saved) → 4 + k_of d * f_of d ≤ length out → Saving d matrix out r out'
-    → (r ≡ saved.Bytes (4 + k_of d * f_of d)) × (out' ≡ take (4 + k_of d * f_of d) form ++ drop (4 + k_of d * f_of d) out)
+pub saves_back : {form elements matrix : List ℕ} {d : Decoder} → Bytes form → Loading form elements (Ok d) matrix
+    → (out out' : List ℕ) (r : Result ℕ RLNCError) → 4 + k_of d * f_of d ≤ length out → Saving d matrix out r out'
+    → (r ≡ Ok (4 + k_of d * f_of d)) × (out' ≡ take (4 + k_of d * f_of d) form ++ drop (4 + k_of d * f_of d) out)
 unfolding form_decoder
 saves_back {form} {elements} {matrix} {d} bytes l out out' r =
     let it : WasLoaded form elements d matrix = was_loaded form elements d matrix l in
     let g : Geometry = it.geometry in
     subst (λ (x : Decoder). 4 + k_of x * f_of x ≤ length out → Saving x matrix out r out'
-    → (r ≡ saved.Bytes (4 + k_of x * f_of x)) × (out' ≡ take (4 + k_of x * f_of x) form ++ drop (4 + k_of x * f_of x) out))
+    → (r ≡ Ok (4 + k_of x * f_of x)) × (out' ≡ take (4 + k_of x * f_of x) form ++ drop (4 + k_of x * f_of x) out))
     (sym it.is)
     (λ room s.
     let m : List ℕ = form_matrix g form ++ drop (matrix_size g) elements in

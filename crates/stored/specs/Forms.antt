@@ -1,5 +1,5 @@
 -- "Stored form 0x21, 0x22, 0x23 for these geometries: rows (1 byte), taken (2, high byte first), k·F matrix bytes; bodies of 18, 4,099 and 16,387."
-use Rattle.std.specs.Prelude.{◌&&◌, List, ◌∷◌, ◌++◌, ℕ, ◌+◌, ◌-◌, ◌*◌, ◌/◌, ◌%◌, eqb, get_or, take, drop, replicate}
+use Rattle.std.specs.Prelude.{◌&&◌, List, ◌∷◌, ◌++◌, ℕ, ◌+◌, ◌-◌, ◌*◌, ◌/◌, ◌%◌, eqb, get_or, take, drop, replicate, Option, Some, None}
 use Rattle.linear.specs.Choice.{pick}
 use Rattle.linear.specs.Buffer.{flat}
 use Rattle.stream.specs.declared.Geometry.{Geometry}
@@ -8,8 +8,6 @@ use Rattle.stream.specs.Geometries.{pieces_of, length_of, body_of}
 use Rattle.decoder.specs.declared.Decoder.{Decoder}
 use Rattle.decoder.specs.Records.{rows_in, taken_by, held_rows}
 use Rattle.decoder.specs.Entries.{decoder_of}
-use Rattle.stored.specs.declared.Listed.{Listed}
-use Rattle.stored.specs.declared.Listed.TheVariants as listed
 
 abbrev pub stored_kind : Geometry → ℕ
 stored_kind Of3By2 = 0x21
@@ -24,14 +22,14 @@ abbrev pub form_size : Geometry → ℕ
 form_size g = 4 + matrix_size g
 
 -- the geometry of a stored kind
-unfoldable pub stored_geometry : ℕ → Listed
+unfoldable pub stored_geometry : ℕ → Option Geometry
 stored_geometry kind =
-    pick (eqb kind 0x21) (listed.Of Of3By2) (pick (eqb kind 0x22) (listed.Of Of16By240) (pick (eqb kind 0x23) (listed.Of Of32By480) listed.Unlisted))
+    pick (eqb kind 0x21) (Some Of3By2) (pick (eqb kind 0x22) (Some Of16By240) (pick (eqb kind 0x23) (Some Of32By480) None))
 
 -- the geometry of a decoder's sizes
-unfoldable pub size_geometry : ℕ → ℕ → Listed
+unfoldable pub size_geometry : ℕ → ℕ → Option Geometry
 size_geometry k L =
-    pick (eqb k 3 && eqb L 2) (listed.Of Of3By2) (pick (eqb k 16 && eqb L 240) (listed.Of Of16By240) (pick (eqb k 32 && eqb L 480) (listed.Of Of32By480) listed.Unlisted))
+    pick (eqb k 3 && eqb L 2) (Some Of3By2) (pick (eqb k 16 && eqb L 240) (Some Of16By240) (pick (eqb k 32 && eqb L 480) (Some Of32By480) None))
 
 -- "Saving writes zeros behind the held rows"
 unfoldable pub form_of : Geometry → Decoder → List ℕ → List ℕ

@@ -2,36 +2,15 @@
 // loads saves back to the same bytes.
 #![tactic(auto)]
 
-ghost use Rattle.std.specs.Prelude.{◌≡◌, false, ◌++◌, ◌-◌, ◌≤◌, length, take, drop, replicate};
+ghost use Rattle.std.specs.Prelude.{◌≡◌, false, ◌++◌, ◌-◌, ◌*◌, ◌≤◌, ◌<◌, length, replicate, MatchOption};
 ghost use Rattle.stream.specs.Geometries.{pieces_of, length_of};
-ghost use Rattle.decoder.specs.Records.{k_of, l_of, bad_state};
-ghost use Rattle.stored.specs.Forms.{stored_kind, matrix_size, form_size, stored_geometry, size_geometry, form_of, form_taken, form_decoder};
-ghost use Rattle.stored.specs.Entries.{bad_form, Saving, Loading};
+ghost use Rattle.decoder.specs.Records.{k_of, l_of, f_of, bad_state};
+ghost use Rattle.stored.specs.Forms.{stored_kind, matrix_size, form_size, stored_geometry, size_geometry, form_of, form_matrix, form_decoder};
+ghost use Rattle.stored.specs.Entries.{bad_parts, Saving, Loading};
 
-use answers::Answer;
+use answers::RLNCError;
 use decoder::{Decoder, ReceivedPieceCount, UsefulPieceCount};
 use stream::Geometry;
-
-// How many bytes were written.
-#[derive(Clone, Copy)]
-pub enum Saved {
-    Bytes(usize),
-    Refused(Answer),
-}
-
-// The decoder beside the matrix that was filled.
-#[derive(Clone, Copy)]
-pub enum Loaded {
-    Of(Decoder),
-    Refused(Answer),
-}
-
-// The geometry of a stored kind or of a decoder's sizes, where they are listed.
-#[derive(Clone, Copy)]
-enum Listed {
-    Of(Geometry),
-    Unlisted,
-}
 
 fn stored_kind(g: Geometry) -> u8
     ensures { result ≡ stored_kind g }
@@ -47,11 +26,7 @@ fn stored_kind(g: Geometry) -> u8
 fn matrix_len(g: Geometry) -> usize
     ensures { result ≡ matrix_size g }
 {
-    match g {
-        Geometry::Of3By2 => 15,
-        Geometry::Of16By240 => 4096,
-        Geometry::Of32By480 => 16384,
-    }
+    g.piece_count() * g.body_len()
 }
 
 // The bytes of the whole form, its kind included.
@@ -61,141 +36,110 @@ fn form_len(g: Geometry) -> usize
     4 + matrix_len(g)
 }
 
+// The geometry of a stored kind, if it is listed.
 #[tactic(auto, unfolding(crate::specs::Forms::stored_geometry))]
-fn of_kind(kind: u8) -> Listed
+fn of_kind(kind: u8) -> Option<Geometry>
     ensures { result ≡ stored_geometry kind }
 {
-    match kind {
-        0x21 => Listed::Of(Geometry::Of3By2),
-        0x22 => Listed::Of(Geometry::Of16By240),
-        0x23 => Listed::Of(Geometry::Of32By480),
-        _ => Listed::Unlisted,
-    }
+    Geometry::ALL.into_iter().find(|g| stored_kind(*g) == kind)
 }
 
+// The geometry of a decoder of these sizes, if it is listed.
 #[tactic(auto, unfolding(crate::specs::Forms::size_geometry))]
-fn of_sizes(piece_count: usize, piece_byte_len: usize) -> Listed
+fn of_sizes(piece_count: usize, piece_byte_len: usize) -> Option<Geometry>
     ensures { result ≡ size_geometry piece_count piece_byte_len }
 {
-    if piece_count == 3 && piece_byte_len == 2 {
-        return Listed::Of(Geometry::Of3By2);
-    }
-    if piece_count == 16 && piece_byte_len == 240 {
-        return Listed::Of(Geometry::Of16By240);
-    }
-    if piece_count == 32 && piece_byte_len == 480 {
-        return Listed::Of(Geometry::Of32By480);
-    }
-    Listed::Unlisted
+    Geometry::ALL.into_iter().find(|g| g.piece_count() == piece_count
+        && g.piece_byte_len() == piece_byte_len)
 }
 
 // The held bytes of a matrix, then zeros.
-fn put_matrix(elements: &[u8], held: usize, part: &mut [u8])
-    requires { (held ≤ length elements.now) × (held ≤ length part.old) }
-    ensures { part.new ≡ take held elements.now ++ replicate (length part.old - held) 0 }
+fn put_matrix(held: &[u8], part: &mut [u8])
+    requires { length held.now ≤ length part.old }
+    ensures { part.new ≡ held.now ++ replicate (length part.old - length held.now) 0 }
 {
-    part[..held].copy_from_slice(&elements[..held]);
-    rows::clear(&mut part[held..]);
+    let (front, behind) = part.split_at_mut(held.len());
+    front.copy_from_slice(held);
+    behind.fill(0);
 }
 
-// The form of a decoder of this geometry, at the front of `out`.
-fn put_form(g: Geometry, d: Decoder, elements: &[u8], out: &mut [u8])
+// The form of a decoder of this geometry.
+fn put_form(g: Geometry, d: Decoder, elements: &[u8], form: &mut [u8])
     requires d_value { (k_of d ≡ pieces_of g) × (l_of d ≡ length_of g) }
     requires elements_value { bad_state d (length elements.now) ≡ false }
-    requires g_in_bounds { form_size g ≤ length out.old }
-    ensures { out.new ≡ form_of g d elements.now ++ drop (form_size g) out.old }
+    requires g_in_bounds { length form.old ≡ form_size g }
+    ensures { form.new ≡ form_of g d elements.now }
 {
     let rows = d.useful_piece_count.0;
-    let taken = d.received_piece_count.0;
-    out[0] = stored_kind(g);
-    out[1] = rows as u8;
-    out[2] = (taken / 256) as u8;
-    out[3] = (taken % 256) as u8;
-    let e = form_len(g);
-    put_matrix(elements, rows * g.body_len(), &mut out[4..e]);
+    let [high, low] = (d.received_piece_count.0 as u16).to_be_bytes();
+    let (head, matrix) = form.split_at_mut(4);
+    head.copy_from_slice(&[stored_kind(g), rows as u8, high, low]);
+    put_matrix(&elements[..rows * g.body_len()], matrix);
 }
 
-// The form of a decoder in a good state and of a listed size, at the front of `out`.
-pub fn save(d: Decoder, elements: &[u8], out: &mut [u8]) -> Saved
+// The form of a decoder in a good state and of a listed size, at the front of `out`: how many bytes were written.
+pub fn save(d: Decoder, elements: &[u8], out: &mut [u8]) -> Result<usize, RLNCError>
     ensures { Saving d elements.now out.old result out.new }
 {
     if !d.holds(elements.len()) {
-        return Saved::Refused(Answer::BadState);
+        return Err(RLNCError::BadState);
     }
-    let Listed::Of(g) = of_sizes(d.required_piece_count, d.piece_byte_len) else {
-        return Saved::Refused(Answer::UnknownKind);
-    };
+    let g = of_sizes(d.required_piece_count, d.piece_byte_len).ok_or(RLNCError::UnknownKind)?;
     let n = form_len(g);
     if out.len() < n {
-        return Saved::Refused(Answer::NoRoom);
+        return Err(RLNCError::NoRoom);
     }
-    put_form(g, d, elements, out);
-    Saved::Bytes(n)
+    put_form(g, d, elements, &mut out[..n]);
+    Ok(n)
 }
 
-// The taken count: high byte first.
-#[tactic(auto, unfolding(crate::specs::Forms::form_taken))]
-fn taken_in(form: &[u8]) -> usize
-    requires { 4 ≤ length form.now }
-    ensures { result ≡ form_taken form.now }
+// The record and the matrix in a form of this geometry; none where it is cut short.
+#[tactic(auto, unfolding(crate::specs::Forms::form_rows, crate::specs::Forms::form_taken, crate::specs::Forms::form_matrix, crate::specs::Forms::form_decoder))]
+fn parts(g: Geometry, form: &[u8]) -> Option<(Decoder, &[u8])>
+    ensures { MatchOption result (length form.now < form_size g) (λ p. (form_size g ≤ length form.now) × (p.0 ≡ form_decoder g form.now) × (p.1.now ≡ form_matrix g form.now)) }
 {
-    form[2] as usize * 256 + form[3] as usize
+    let [_, rows, high, low, rest @ ..] = form else {
+        return None;
+    };
+    let matrix = rest.get(..matrix_len(g))?;
+    let taken = u16::from_be_bytes([*high, *low]);
+    let d = Decoder {
+        required_piece_count: g.piece_count(),
+        piece_byte_len: g.piece_byte_len(),
+        useful_piece_count: UsefulPieceCount(*rows as usize),
+        received_piece_count: ReceivedPieceCount(taken as usize),
+    };
+    Some((d, matrix))
 }
 
 // Bad counts, or a nonzero byte behind the held rows.
-fn is_bad_form(g: Geometry, form: &[u8]) -> bool
-    requires { form_size g ≤ length form.now }
-    ensures { result ≡ bad_form g form.now }
+#[tactic(auto, unfolding(crate::specs::Entries::bad_parts))]
+fn is_bad(d: Decoder, matrix: &[u8]) -> bool
+    requires { length matrix.now ≡ k_of d * f_of d }
+    ensures { result ≡ bad_parts d matrix.now }
 {
-    let rows = form[1] as usize;
-    if g.piece_count() < rows {
-        return true;
-    }
-    if taken_in(form) < rows {
-        return true;
-    }
-    let a = 4 + rows * g.body_len();
-    let e = form_len(g);
-    !rows::is_zero(&form[a..e])
-}
-
-// The record in a form.
-#[tactic(auto, unfolding(crate::specs::Forms::form_rows, crate::specs::Forms::form_decoder))]
-fn decoder_in(g: Geometry, form: &[u8]) -> Decoder
-    requires { 4 ≤ length form.now }
-    ensures { result ≡ form_decoder g form.now }
-{
-    let rows = UsefulPieceCount(form[1] as usize);
-    let taken = ReceivedPieceCount(taken_in(form));
-    Decoder {
-        required_piece_count: g.piece_count(),
-        piece_byte_len: g.piece_byte_len(),
-        useful_piece_count: rows,
-        received_piece_count: taken,
-    }
+    let rows = d.useful_piece_count.0;
+    d.required_piece_count < rows
+        || d.received_piece_count.0 < rows
+        || !rows::is_zero(&matrix[rows * (d.required_piece_count + d.piece_byte_len)..])
 }
 
 // The decoder of a form, its matrix at the front of `elements`.
-pub fn load(form: &[u8], elements: &mut [u8]) -> Loaded
+pub fn load(form: &[u8], elements: &mut [u8]) -> Result<Decoder, RLNCError>
     ensures { Loading form.now elements.old result elements.new }
 {
-    if form.len() == 0 {
-        return Loaded::Refused(Answer::CutRecord);
-    }
-    let Listed::Of(g) = of_kind(form[0]) else {
-        return Loaded::Refused(Answer::UnknownKind);
+    let [kind, ..] = form else {
+        return Err(RLNCError::CutRecord);
     };
-    let e = form_len(g);
-    if form.len() < e {
-        return Loaded::Refused(Answer::CutRecord);
-    }
-    let n = matrix_len(g);
+    let g = of_kind(*kind).ok_or(RLNCError::UnknownKind)?;
+    let (d, matrix) = parts(g, form).ok_or(RLNCError::CutRecord)?;
+    let n = matrix.len();
     if elements.len() < n {
-        return Loaded::Refused(Answer::NoRoom);
+        return Err(RLNCError::NoRoom);
     }
-    if is_bad_form(g, form) {
-        return Loaded::Refused(Answer::BadState);
+    if is_bad(d, matrix) {
+        return Err(RLNCError::BadState);
     }
-    elements[..n].copy_from_slice(&form[4..e]);
-    Loaded::Of(decoder_in(g, form))
+    elements[..n].copy_from_slice(matrix);
+    Ok(d)
 }

@@ -4,7 +4,7 @@
 use mathlib.Core.Path.{◌≡◌, sym, ◌∙◌}
 use mathlib.Core.List.{List}
 use Prim.Native.Nat.{ℕ}
-use Rattle.answers.specs.declared.Answer.{Answer}
+use Rattle.answers.specs.Number.{Answer}
 use Rattle.stream.specs.declared.Geometry.{Geometry}
 use Rattle.stream.specs.Records.{Written}
 

@@ -1,6 +1,6 @@
 -- Small streams and what they are.
 use Rattle.std.specs.Prelude.{◌≡◌, List, [], ◌∷◌, ◌++◌, ℕ}
-use Rattle.answers.specs.declared.Answer.TheVariants.{UnknownKind, CutRecord, MixedKinds}
+use Rattle.answers.specs.declared.RLNCError.TheVariants.{UnknownKind, CutRecord, MixedKinds}
 use Rattle.stream.specs.declared.Geometry.TheVariants.{Of3By2}
 use Rattle.stream.specs.Streams.{piece, end, stop, stream_of}
 

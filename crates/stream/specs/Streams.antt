@@ -1,11 +1,9 @@
 -- A whole stream: its pieces, and how it ends.
-use Rattle.std.specs.Prelude.{List, [], ◌∷◌, ◌++◌, ℕ, zero, suc, ◌+◌, length, take, drop}
-use Rattle.answers.specs.declared.Answer.{Answer}
-use Rattle.answers.specs.declared.Answer.TheVariants.{CutRecord}
+use Rattle.std.specs.Prelude.{List, [], ◌∷◌, ◌++◌, ℕ, zero, suc, ◌+◌, length, take, drop, Option, Some, None, Ok, Err}
+use Rattle.answers.specs.declared.RLNCError.{RLNCError}
+use Rattle.answers.specs.declared.RLNCError.TheVariants.{CutRecord}
 use Rattle.stream.specs.declared.Geometry.{Geometry}
-use Rattle.stream.specs.declared.Seen.{Seen}
-use Rattle.stream.specs.declared.Seen.TheVariants as seen
-use Rattle.stream.specs.declared.Record.TheVariants.{Piece, End, Refused}
+use Rattle.stream.specs.declared.Record.TheVariants.{Piece, End}
 use Rattle.stream.specs.Geometries.{kind_of, body_of}
 use Rattle.stream.specs.Records.{record_at}
 
@@ -18,23 +16,23 @@ largest = 18446744073709551615
 pub data Stream : Type 0 where
   piece : Geometry → List ℕ → Stream → Stream
   end : Stream
-  stop : Answer → ℕ → Stream
+  stop : RLNCError → ℕ → Stream
 
 -- one record after the other from an offset on; `fuel` is more than there are records
-unfoldable pub stream_from : ℕ → Seen → ℕ → List ℕ → Stream
+unfoldable pub stream_from : ℕ → Option Geometry → ℕ → List ℕ → Stream
 stream_from zero so_far at bytes = stop CutRecord at
 stream_from (suc fuel) so_far at bytes =
     elim (record_at so_far bytes) [
-      | Piece g ↦ piece g (take (body_of g) (drop 1 bytes)) (stream_from fuel (seen.Pieces g) (at + 1 + body_of g) (drop (1 + body_of g) bytes))
-      | End ↦ end
-      | Refused a ↦ stop a at
+      | Ok (Piece g) ↦ piece g (take (body_of g) (drop 1 bytes)) (stream_from fuel (Some g) (at + 1 + body_of g) (drop (1 + body_of g) bytes))
+      | Ok End ↦ end
+      | Err e ↦ stop e at
     ]
 
 unfoldable pub stream_of : List ℕ → Stream
-stream_of bytes = stream_from (suc (length bytes)) seen.Nothing 0 bytes
+stream_of bytes = stream_from (suc (length bytes)) None 0 bytes
 
 -- what is left of a stream from an offset on
-unfoldable pub stream_at : Seen → ℕ → List ℕ → Stream
+unfoldable pub stream_at : Option Geometry → ℕ → List ℕ → Stream
 stream_at so_far at bytes = stream_from (suc (length (drop at bytes))) so_far at (drop at bytes)
 
 -- the records of some pieces, as `write` leaves each

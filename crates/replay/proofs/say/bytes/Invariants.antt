@@ -1,6 +1,7 @@
--- `replay::say::bytes` is safe: the text that waits lies in its buffer.
-use Rattle.std.proofs.Common.{◌≤◌}
+-- The chunks are short enough for the text.
+use Rattle.std.proofs.Common.{◌≡◌}
+use Rattle.std.specs.Slice.Iter.{chunks_size}
 use Rattle.replay.proofs.say.bytes.Given as goal
 
-abbrev pub invariant-loop-i : goal.invariant-loop-i
-invariant-loop-i l = l.used ≤ 4096
+abbrev pub invariant-loop-chunk : goal.invariant-loop-chunk
+invariant-loop-chunk l = chunks_size l.chunk-iterator ≡ 2048

@@ -1,10 +1,8 @@
--- `rlnc::pieces::rlnc_stream_read` meets its contract: 22 where no pieces have the kind of those so far, else it hands on what `stream` reads.
-use mathlib.Core.Path.{sym, ◌∙◌}
-use Rattle.rlnc.proofs.Streams.{read_refused, read_given}
+-- `rlnc::pieces::rlnc_stream_read` meets its contract: it hands on what `stream` reads.
+use Rattle.std.proofs.Common.{rules}
+use Rattle.stream.specs.Records.{record_at}
+use Rattle.rlnc.proofs.Streams.{read_given}
 use Rattle.rlnc.proofs.pieces.rlnc_stream_read.Goals as goal
 
-pub returns-in_default : goal.returns-in_default
-returns-in_default c = read_refused _ (sym c.seen_by.ensures ∙ c.in_default.is) c.number.ensures
-
 pub returns : goal.returns
-returns c = read_given _ (sym c.seen_by.ensures ∙ c.in-Of.is) c.read.ensures c.give_record.ensures
+returns c = read_given (λ s. record_at s c.args.bytes.now) c.seen_by.ensures (λ s p. search rules) c.and_then-found.ensures c.give_record.ensures

@@ -9,34 +9,28 @@ use Rattle.rows.proofs.combining.sum_bits.Goals as goal
 pub loop-bit-init : goal.loop-bit-init
 loop-bit-init c =
     let a = c.args in
-    record {
-      small = omega arith;
-      holds = λ 𝓕 e. begun 𝓕 (length a.out.now) (length a.numbers.now) a.numbers.now a.rows.now (λ i. omega (arith, c.type_inv.numbers i)) c.requires
-          c.clear.new.vec c.clear.ensures (c.add_chosen.ensures 𝓕);
-    }
+    begun (field_of a.f) (length a.out.now) (length a.numbers.now) a.numbers.now a.rows.now (λ i. omega (arith, c.type_inv.numbers i)) c.requires
+    c.clear.ensures
 
 pub loop-bit-preserved : goal.loop-bit-preserved
 loop-bit-preserved c =
     let a = c.args in
+    let 𝓕 = field_of a.f in
     let l = c.loop-bit in
     let n = length a.out.now in
     let m = length a.numbers.now in
     let next : l.bit ≡ suc (l.bit - 1) = omega arith in
-    record {
-      small = omega arith;
-      holds = λ 𝓕 e. grown 𝓕 n m a.numbers.now a.rows.now (λ i. omega (arith, c.type_inv.numbers i)) c.requires (l.bit - 1) l.out c.double.new.row
-          (l.invariant.holds 𝓕 e ∙ ap (λ (b : ℕ). combine 𝓕 n (above b a.numbers.now) (rows_of n m a.rows.now)) next)
-          (c.double.ensures 𝓕 e) (c.add_chosen-in-loop-bit.ensures 𝓕);
-    }
+    grown 𝓕 n m a.numbers.now a.rows.now (λ i. omega (arith, c.type_inv.numbers i)) c.requires (l.bit - 1) l.out c.double.new.row
+    (l.invariant ∙ ap (λ (b : ℕ). combine 𝓕 n (above b a.numbers.now) (rows_of n m a.rows.now)) next)
+    c.double.ensures (c.add_chosen.ensures 𝓕)
 
 pub returns : goal.returns
 returns c =
     let a = c.args in
-    let l = c.loop-bit in
     let 𝓕 = field_of a.f in
     let n = length a.out.now in
     let m = length a.numbers.now in
-    let done : l.bit ≡ 0 = omega arith in
-    l.invariant.holds 𝓕 c.mul-p.ensures
+    let done : c.loop-bit.bit ≡ 0 = omega arith in
+    c.loop-bit.invariant
     ∙ ap (λ (b : ℕ). combine 𝓕 n (above b a.numbers.now) (rows_of n m a.rows.now)) done
     ∙ ap (λ (cs : List ℕ). combine 𝓕 n cs (rows_of n m a.rows.now)) (above_none a.numbers.now)
