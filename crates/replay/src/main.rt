@@ -59,7 +59,8 @@ struct Buffers {
     b: [u8; BUFFER_LEN],
 }
 
-// What a call is lent: the front of a kept buffer, and its two slices.
+// What a call is lent: the front of a kept buffer, and its two slices. It is taken apart first: two slices behind one `&mut Lent` are not covered by
+// the borrow checker.
 #[derive(Drop)]
 struct Lent<'a> {
     kept: &'a mut [u8],

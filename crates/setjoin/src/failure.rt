@@ -25,7 +25,7 @@ fn reason(text: &str) -> &str {
     }
 }
 
-// A line that says what failed, and the reason.
+// A line that says what failed, and the reason: as one text, so that it is written at once.
 pub(crate) fn line(what: &str, e: io::Error) -> ArrayString<LINE_LEN> {
     let mut text = ArrayString::<REASON_LEN>::new();
     let _fits = write!(text, "{e}").is_ok();

@@ -118,6 +118,7 @@ fn turn(rt: &HostRuntime, m: Joiner, lent: &mut Lent, from: usize) -> Result<Fed
 // any input uses up. The machine has room for every turn: it refuses an input only past 2^64 bytes.
 fn run(rt: &HostRuntime, mode: Mode, lent: &mut Lent) -> Result<u8, Failure> {
     let mut m = Joiner::new();
+    // How much text waits: it stands at the front of a lent buffer, since there is no heap.
     let mut used = 0;
     for _ in 0..u64::MAX {
         let from = make_room(rt, mode, &lent.out, used)?;
