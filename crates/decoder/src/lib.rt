@@ -3,12 +3,14 @@
 #![tactic(auto)]
 
 ghost use Rattle.std.specs.Prelude.{◌≡◌, not, ◌+◌, ◌-◌, length, Ok, Err};
+ghost use Rattle.answers.specs.Number.{number_of};
 ghost use Rattle.answers.specs.declared.RLNCError.TheVariants.{BadState};
 ghost use Rattle.field.specs.FieldOf.{field_of};
 ghost use Rattle.linear.specs.Choice.{pick};
 ghost use Rattle.block.specs.Padding.{marker};
 ghost use Rattle.block.specs.Counts.{counted};
 ghost use Rattle.decoder.specs.Records.{sound, bad_state};
+ghost use Rattle.decoder.specs.Answers.{taken_number, kept};
 ghost use Rattle.decoder.specs.Entries.{NewDecoder, take_refusal, Decoded, completed, Recovery};
 
 mod block_in;
@@ -192,6 +194,19 @@ impl Decoder {
             return Err(RLNCError::TooManyTaken);
         }
         Ok(self.take_piece(f, elements, full_coded_piece))
+    }
+
+    // What the caller of `decode` goes on with: the record, which stays as it is where the piece was refused, and the answer.
+    #[tactic(auto, unfolding(crate::specs::Answers::kept, crate::specs::Answers::taken_number))]
+    pub fn after_piece(self, taken: Result<Taken, RLNCError>) -> (Decoder, Answer)
+        ensures record { result.0 ≡ kept self taken }
+        ensures number { number_of result.1 ≡ taken_number taken }
+    {
+        match taken {
+            Ok(Taken::Useful(next)) => (next, Ok(())),
+            Ok(Taken::NotUseful(next)) => (next, Err(RLNCError::PieceNotUseful)),
+            Err(e) => (self, Err(e)),
+        }
     }
 
     // The same where nothing refuses it; then neither do the rules.

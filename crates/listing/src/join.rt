@@ -7,7 +7,7 @@ ghost use Rattle.listing.specs.Steps.{Started, Took, Counted, Stepped, Recovered
 
 use crate::LINE_LEN;
 use answers::{Answer, RLNCError};
-use decoder::{Decoder, Taken};
+use decoder::Decoder;
 use field::Field;
 use stream::Geometry;
 
@@ -131,9 +131,5 @@ impl Joining {
 fn take(f: Field, d: Decoder, body: &[u8], elements: &mut [u8]) -> (Decoder, Answer)
     ensures { Took (field_of f) d body.now elements.old result elements.new }
 {
-    match d.decode(f, elements, body) {
-        Ok(Taken::Useful(next)) => (next, Ok(())),
-        Ok(Taken::NotUseful(next)) => (next, Err(RLNCError::PieceNotUseful)),
-        Err(e) => (d, Err(e)),
-    }
+    d.after_piece(d.decode(f, elements, body))
 }

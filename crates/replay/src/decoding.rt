@@ -1,7 +1,7 @@
 // Calls of the decoder, which is kept beside its matrix, and of its stored form.
 use super::{Call, Lent, say};
 use answers::RLNCError;
-use decoder::{Decoder, ReceivedPieceCount, Taken, UsefulPieceCount};
+use decoder::{Decoder, ReceivedPieceCount, UsefulPieceCount};
 use field::Field;
 
 // The answer is said, and the record is the one to keep.
@@ -14,7 +14,7 @@ pub(crate) fn call(rt: &HostRuntime, c: Call, d: Decoder, lent: Lent<'_>) -> Dec
     let next = match c.op {
         0x31 => say::kept(rt, d, Decoder::new(c.p, c.q, elements)),
         0x32 => {
-            say::number(rt, 0);
+            say::answer(rt, Ok(()));
             Decoder {
                 required_piece_count: c.p,
                 piece_byte_len: c.q,
@@ -22,7 +22,11 @@ pub(crate) fn call(rt: &HostRuntime, c: Call, d: Decoder, lent: Lent<'_>) -> Dec
                 received_piece_count: ReceivedPieceCount(c.s),
             }
         }
-        0x33 => taken(rt, d, d.decode(Field::Fips197, elements, a)),
+        0x33 => {
+            let (next, answer) = d.after_piece(d.decode(Field::Fips197, elements, a));
+            say::answer(rt, answer);
+            next
+        }
         0x34 => {
             say::length(rt, d.get_decoded_data(elements, b));
             d
@@ -46,17 +50,6 @@ fn counts(rt: &HostRuntime, d: Decoder) {
     say::count(rt, d.get_useful_piece_count());
     say::count(rt, d.get_remaining_piece_count());
     complete(rt, d.is_already_decoded());
-}
-
-fn taken(rt: &HostRuntime, before: Decoder, taken: Result<Taken, RLNCError>) -> Decoder {
-    match taken {
-        Ok(Taken::Useful(d)) => say::kept(rt, before, Ok(d)),
-        Ok(Taken::NotUseful(d)) => {
-            say::answer(rt, Err(RLNCError::PieceNotUseful));
-            d
-        }
-        Err(e) => say::kept(rt, before, Err(e)),
-    }
 }
 
 fn complete(rt: &HostRuntime, completed: Result<bool, RLNCError>) {

@@ -18,7 +18,7 @@ fn asked(rt: &HostRuntime, c: Call, a: &mut [u8], b: &[u8]) {
         1 => field(rt, low(c.p)),
         2 => {
             rows::inplace_mul_vec_by_scalar(Field::Fips197, a, low(c.p));
-            say::number(rt, 0);
+            say::answer(rt, Ok(()));
         }
         3 => say::answer(rt, rows::inplace_add_vectors(a, b)),
         4 => say::answer(
@@ -29,7 +29,7 @@ fn asked(rt: &HostRuntime, c: Call, a: &mut [u8], b: &[u8]) {
         6 => matrix(rt, of(c).add_row(a, b)),
         7 => say::answer(rt, of(c).swap_rows(a, c.s, c.t)),
         8 => matrix(rt, of(c).rref(Field::Fips197, a)),
-        _ => say::number(rt, 0),
+        _ => say::answer(rt, Ok(())),
     }
 }
 
@@ -83,7 +83,7 @@ fn of(c: Call) -> DecoderMatrix {
 fn matrix(rt: &HostRuntime, made: Result<DecoderMatrix, RLNCError>) {
     match made {
         Ok(now) => {
-            say::number(rt, 0);
+            say::answer(rt, Ok(()));
             say::number(rt, now.num_pieces_coded_together);
             say::number(rt, now.rows);
             say::number(rt, now.cols);

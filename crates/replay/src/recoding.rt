@@ -9,7 +9,7 @@ pub(crate) fn call(rt: &HostRuntime, c: Call, r: Recoder, lent: Lent<'_>) -> Rec
     let next = match c.op {
         0x21 => say::kept(rt, r, Recoder::new(pieces, c.p, c.q)),
         0x22 => {
-            say::number(rt, 0);
+            say::answer(rt, Ok(()));
             Recoder {
                 num_pieces_received: c.p,
                 full_coded_piece_byte_len: c.q,

@@ -1,15 +1,12 @@
 // The decoder: the numbers `piece_byte_len`, `required_piece_count`, `useful_piece_count` and `received_piece_count`, beside the lent matrix.
 ghost use Rattle.std.specs.Prelude.{◌≡◌};
-ghost use Rattle.answers.specs.Number.{number_of};
 ghost use Rattle.gf256.proofs.Known.{fips};
 ghost use Rattle.block.specs.Padding.{marker};
-ghost use Rattle.decoder.specs.Answers.{kept, taken_number};
 ghost use Rattle.decoder.specs.Entries.{decoder_of};
 ghost use Rattle.rlnc.specs.Records.{DecoderMade, PieceTaken, DataRecovered};
 
 use crate::give::give;
-use answers::{Answer, RLNCError};
-use decoder::{Decoder, ReceivedPieceCount, Taken, UsefulPieceCount};
+use decoder::{Decoder, ReceivedPieceCount, UsefulPieceCount};
 use field::Field;
 
 // The record of these numbers.
@@ -48,19 +45,6 @@ pub fn rlnc_decoder_new(
     }
 }
 
-// The record that the caller goes on with, and the answer.
-#[tactic(auto, unfolding(decoder::specs::Answers::taken_number, decoder::specs::Answers::kept))]
-fn after_piece(decoder: Decoder, taken: Result<Taken, RLNCError>) -> (Decoder, Answer)
-    ensures kept { result.0 ≡ kept decoder taken }
-    ensures number { number_of result.1 ≡ taken_number taken }
-{
-    match taken {
-        Ok(Taken::Useful(d)) => (d, Ok(())),
-        Ok(Taken::NotUseful(d)) => (d, Err(RLNCError::PieceNotUseful)),
-        Err(e) => (decoder, Err(e)),
-    }
-}
-
 pub fn rlnc_decoder_decode(
     piece_byte_len: usize,
     required_piece_count: usize,
@@ -78,7 +62,7 @@ pub fn rlnc_decoder_decode(
         *received_piece_count,
     );
     let taken = decoder.decode(Field::Fips197, elements, full_coded_piece);
-    let (after, answer) = after_piece(decoder, taken);
+    let (after, answer) = decoder.after_piece(taken);
     *useful_piece_count = after.useful_piece_count.0;
     *received_piece_count = after.received_piece_count.0;
     answers::number(answer)

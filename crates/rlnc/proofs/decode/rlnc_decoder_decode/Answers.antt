@@ -4,4 +4,4 @@ use Rattle.rlnc.proofs.Records.{piece_taken}
 use Rattle.rlnc.proofs.decode.rlnc_decoder_decode.Goals as goal
 
 pub returns : goal.returns
-returns c = let a = c.after_piece-answer.ensures in piece_taken c.decode-taken.ensures _ c.decoder_of-decoder.ensures (c.number.ensures ∙ a.number) a.kept
+returns c = let a = c.after_piece-answer.ensures in piece_taken c.decode-taken.ensures _ c.decoder_of-decoder.ensures (c.number.ensures ∙ a.number) a.record
