@@ -21,8 +21,14 @@ mod failure;
 // How much text is kept before it is written out.
 const OUT_LEN: usize = 65536;
 
-// The status where nobody reads what is written.
-const UNREAD: u8 = 3;
+// How a call ended: the set was rebuilt; it was not; the stream stopped, or something failed; or nobody reads any more what is written.
+#[derive(Clone, Copy)]
+enum Status {
+    Rebuilt,
+    Open,
+    Failed,
+    Unread,
+}
 
 // What is written: the listing, each line as soon as it is known, or the data alone.
 #[derive(Clone, Copy)]
@@ -69,7 +75,7 @@ fn complain(rt: &HostRuntime, text: &[u8]) {
 fn reports_unread(rt: &HostRuntime, e: &io::Error) -> bool {
     let unread = matches!(e.kind(), ErrorKind::BrokenPipe) && call::asks_status(rt);
     if unread {
-        tell(rt, UNREAD);
+        tell(rt, Status::Unread);
     }
     unread
 }
@@ -116,15 +122,13 @@ fn turn(rt: &HostRuntime, m: Joiner, lent: &mut Lent, from: usize) -> Result<Fed
 
 // Read, feed, write, until the machine wants nothing. A proved loop has to end, and nothing says that an input does: so there are no more turns than
 // any input uses up. The machine has room for every turn: it refuses an input only past 2^64 bytes.
-fn run(rt: &HostRuntime, mode: Mode, lent: &mut Lent) -> Result<u8, Failure> {
+fn run(rt: &HostRuntime, mode: Mode, lent: &mut Lent) -> Result<Status, Failure> {
     let mut m = Joiner::new();
     // How much text waits: it stands at the front of a lent buffer, since there is no heap.
     let mut used = 0;
     for _ in 0..u64::MAX {
         let from = make_room(rt, mode, &lent.out, used)?;
-        let Ok(fed) = turn(rt, m, lent, from) else {
-            return Err(Failure::TooLong);
-        };
+        let fed = turn(rt, m, lent, from).map_err(|_| Failure::TooLong)?;
         m = fed.joiner;
         let last = from + fed.first;
         used = last + fed.later;
@@ -136,7 +140,7 @@ fn run(rt: &HostRuntime, mode: Mode, lent: &mut Lent) -> Result<u8, Failure> {
     Err(Failure::TooLong)
 }
 
-// The end: 0 for a set that was rebuilt, 1 for one that was not, 2 for a stream that stopped.
+// The end: what is left is written.
 fn end(
     rt: &HostRuntime,
     mode: Mode,
@@ -144,11 +148,11 @@ fn end(
     block: &[u8],
     text: &[u8],
     last_lines: &[u8],
-) -> Result<u8, Failure> {
+) -> Result<Status, Failure> {
     match (mode, ending) {
         (Mode::Data, Ending::Rebuilt(n)) => {
             let Some(found) = block.get(..n) else {
-                return Ok(2);
+                return Ok(Status::Failed);
             };
             write(rt, found)?;
         }
@@ -156,14 +160,14 @@ fn end(
         _ => write(rt, text)?,
     }
     match ending {
-        Ending::Rebuilt(_) => Ok(0),
-        Ending::Open => Ok(1),
-        _ => Ok(2),
+        Ending::Rebuilt(_) => Ok(Status::Rebuilt),
+        Ending::Open => Ok(Status::Open),
+        Ending::NotYet | Ending::Stopped => Ok(Status::Failed),
     }
 }
 
 // What the words from this one on ask for is done, for its status.
-fn asked(rt: &HostRuntime, first: usize) -> Result<u8, Failure> {
+fn asked(rt: &HostRuntime, first: usize) -> Result<Status, Failure> {
     let mode = match call::read(rt, first)? {
         Call::Data => Mode::Data,
         Call::Listing if rt.stdout().is_terminal() => Mode::Lines,
@@ -198,20 +202,26 @@ fn say(rt: &HostRuntime, failure: Failure) {
 }
 
 // The status of the call whose words begin here.
-fn answer(rt: &HostRuntime, first: usize) -> u8 {
+fn answer(rt: &HostRuntime, first: usize) -> Status {
     match asked(rt, first) {
         Ok(status) => status,
         Err(failure) => {
             say(rt, failure);
-            2
+            Status::Failed
         }
     }
 }
 
 // The status, as a digit on descriptor 3.
-fn tell(rt: &HostRuntime, status: u8) {
+fn tell(rt: &HostRuntime, status: Status) {
+    let digit = match status {
+        Status::Rebuilt => b"0",
+        Status::Open => b"1",
+        Status::Failed => b"2",
+        Status::Unread => b"3",
+    };
     if let Ok(mut to) = OpenOptions::new().append(true).open(rt, "/dev/fd/3") {
-        let _told = to.write_all(&[b'0' + status % 4]).is_ok();
+        let _told = to.write_all(digit).is_ok();
     }
 }
 

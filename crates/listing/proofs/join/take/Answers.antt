@@ -1,5 +1,5 @@
 -- `listing::join::take` meets its contract: it hands on what `decoder` ensures.
-use mathlib.Core.Path.{◌∙◌, sym}
+use mathlib.Core.Path.{sym}
 use Rattle.listing.proofs.Taking.{took}
 use Rattle.listing.proofs.join.take.Goals as goal
 
