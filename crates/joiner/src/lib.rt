@@ -15,7 +15,7 @@ use listing::LINE_LEN;
 use listing::join::{End, Joining, Step};
 use reader::{Came, Progress, Reader, Then};
 
-// The largest geometry's matrix and block.
+// The largest geometry's matrix and block: a constant's value can call no function.
 pub const MATRIX_LEN: usize = 16384;
 
 pub const BLOCK_LEN: usize = 15360;

@@ -9,7 +9,7 @@ ghost use Rattle.reader.specs.Reading.{started, wanted, opened_by, on, body_brin
 use answers::RLNCError;
 use stream::{Geometry, Record};
 
-// The longest body.
+// The longest body, that of the largest geometry: a constant's value can call no function.
 const BODY_LEN: usize = 512;
 
 // The longest body with the kind byte behind it: more is never wanted.
