@@ -29,6 +29,7 @@ code_of MixedKinds = 26
 abbrev pub Answer : Type 0
 Answer = Result ⊤ RLNCError
 
-abbrev pub number_of : Answer → ℕ
+-- the number of what a function answers, whatever else it hands out
+abbrev pub number_of : {A : Type 0} → Result A RLNCError → ℕ
 number_of (Ok x) = 0
 number_of (Err e) = code_of e

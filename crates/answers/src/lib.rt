@@ -61,12 +61,12 @@ impl RLNCError {
     }
 }
 
-// 0 for `Ok`, and the number of an error.
-pub fn number(answer: Answer) -> u8
+// 0 for `Ok`, whatever it hands out, and the number of an error.
+pub fn number<T: Copy>(answer: Result<T, RLNCError>) -> u8
     ensures { result ≡ number_of answer }
 {
     match answer {
-        Ok(()) => 0,
+        Ok(_) => 0,
         Err(e) => e.number(),
     }
 }

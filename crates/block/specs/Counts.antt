@@ -1,6 +1,5 @@
 -- "Counts are asked of the record alone and answer 22 for its bad numbers."
 use Rattle.std.specs.Prelude.{Bool, List, [], ◌∷◌, ℕ, Result, Ok, Err}
-use Rattle.answers.specs.Number.{code_of}
 use Rattle.answers.specs.declared.RLNCError.{RLNCError}
 use Rattle.answers.specs.declared.RLNCError.TheVariants.{BadState}
 use Rattle.linear.specs.Choice.{pick}
@@ -9,11 +8,7 @@ use Rattle.linear.specs.Choice.{pick}
 unfoldable pub counted : Bool → ℕ → Result ℕ RLNCError
 counted good n = pick good (Ok n) (Err BadState)
 
--- the paper's number of an answer, and its values
-unfoldable pub count_number : Result ℕ RLNCError → ℕ
-count_number (Ok n) = 0
-count_number (Err e) = code_of e
-
+-- the values of an answer
 unfoldable pub count_values : Result ℕ RLNCError → List ℕ
 count_values (Ok n) = n ∷ []
 count_values (Err e) = []

@@ -1,4 +1,4 @@
--- The answers of the decoder's entries: the paper's number for each case, and its values. Of a decoder the values are k, L, rows and taken.
+-- The values that the decoder's entries answer, of a decoder k, L, rows and taken; and the number of a piece taken, which is 8 where it was not useful.
 use Rattle.std.specs.Prelude.{◌||◌, Bool, List, [], ◌∷◌, ℕ, eqb, Result, Ok, Err}
 use Rattle.answers.specs.Number.{code_of}
 use Rattle.answers.specs.declared.RLNCError.{RLNCError}
@@ -10,10 +10,6 @@ use Rattle.decoder.specs.Records.{k_of, l_of, rows_in, taken_by}
 
 abbrev pub values_of : Decoder → List ℕ
 values_of d = k_of d ∷ l_of d ∷ rows_in d ∷ taken_by d ∷ []
-
-unfoldable pub made_number : Result Decoder RLNCError → ℕ
-made_number (Ok d) = 0
-made_number (Err e) = code_of e
 
 unfoldable pub made_values : Result Decoder RLNCError → List ℕ
 made_values (Ok d) = values_of d
@@ -39,17 +35,9 @@ kept d (Ok (Useful e)) = e
 kept d (Ok (NotUseful e)) = e
 kept d (Err e) = d
 
-unfoldable pub complete_number : Result Bool RLNCError → ℕ
-complete_number (Ok b) = 0
-complete_number (Err e) = code_of e
-
 unfoldable pub complete_values : Result Bool RLNCError → List ℕ
 complete_values (Ok b) = pick b 1 0 ∷ []
 complete_values (Err e) = []
-
-unfoldable pub recovered_number : Result ℕ RLNCError → ℕ
-recovered_number (Ok n) = 0
-recovered_number (Err e) = code_of e
 
 unfoldable pub recovered_values : Result ℕ RLNCError → List ℕ
 recovered_values (Ok n) = n ∷ []

@@ -1,6 +1,5 @@
 -- A matrix and the buffer lent beside it: what of the buffer is the matrix, and when the two fit.
 use Rattle.std.specs.Prelude.{Bool, ◌&&◌, List, [], ◌∷◌, ℕ, ◌*◌, leb, Result, Ok, Err}
-use Rattle.answers.specs.Number.{code_of}
 use Rattle.answers.specs.declared.RLNCError.{RLNCError}
 use Rattle.linear.specs.Buffer.{rows_of, holding as held}
 use Rattle.decoder_matrix.specs.declared.DecoderMatrix.{DecoderMatrix}
@@ -9,12 +8,7 @@ use Rattle.decoder_matrix.specs.declared.DecoderMatrix.{DecoderMatrix}
 abbrev pub k_of : DecoderMatrix → ℕ
 k_of m = m.num_pieces_coded_together
 
--- the paper's number of an answer
-abbrev pub number_of_matrix : Result DecoderMatrix RLNCError → ℕ
-number_of_matrix (Ok m) = 0
-number_of_matrix (Err e) = code_of e
-
--- and its values: the record's numbers, or none
+-- the values of an answer: the record's numbers, or none
 abbrev pub values_of_matrix : Result DecoderMatrix RLNCError → List ℕ
 values_of_matrix (Ok m) = k_of m ∷ m.rows ∷ m.cols ∷ []
 values_of_matrix (Err e) = []

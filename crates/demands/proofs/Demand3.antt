@@ -12,6 +12,7 @@ use lib.Dec.{eqb}
 use lib.ListN.{length, take, drop}
 use borrow.Author.Tests.{eqb-true, eq-eqb, le-ltb}
 use Rattle.std.specs.Prelude.{Result, Ok, Err}
+use Rattle.answers.specs.Number.{number_of}
 use Rattle.answers.specs.declared.RLNCError.{RLNCError}
 use Rattle.answers.specs.declared.RLNCError.TheVariants.{InvalidDecodedDataFormat}
 use Rattle.galois.specs.FieldLaws.{FieldLaws}
@@ -26,7 +27,7 @@ use Rattle.block.specs.Reading.{reading, answer_of, data_length}
 use Rattle.block.proofs.Reading.{reads_data, reads_broken}
 use Rattle.decoder.specs.declared.Decoder.{Decoder}
 use Rattle.decoder.specs.Records.{k_of, l_of, f_of, rows_in, sound, bad_state, held_rows}
-use Rattle.decoder.specs.Answers.{complete_values, recovered_number, recovered_values}
+use Rattle.decoder.specs.Answers.{complete_values, recovered_values}
 use Rattle.decoder.specs.Entries.{completed, block_in, recover_refusal, Recovery}
 use Rattle.demands.specs.History.{History}
 use Rattle.demands.specs.Demand3.{Demand3, Counters}
@@ -110,24 +111,24 @@ module _ {𝓕 : FieldLaws} {k L : ℕ} {d : Decoder} {elements : List ℕ} {pie
             (rw e at p, rw e at q)
 
         -- a number of 11 is the refusal of a block that breaks the rule
-        eleven : recovered_number r ≡ 11 → Breaks M (flat block)
-        unfolding recovered_number answer_of
+        eleven : number_of r ≡ 11 → Breaks M (flat block)
+        unfolding answer_of
         eleven z = (reads_broken M (flat block)).1 (go (reading M (flat block)) refl)
           where
             go : (x : Result ℕ BrokenPadding) → reading M (flat block) ≡ x → answer_of (reading M (flat block)) ≡ Err InvalidDecodedDataFormat
-            go (Ok n) e = let never : ◌≡◌ {A = ℕ} 0 11 = sym (ap recovered_number (by_block (Ok n) e).0) ∙ z in absurd (omega arith)
+            go (Ok n) e = let never : ◌≡◌ {A = ℕ} 0 11 = sym (ap number_of (by_block (Ok n) e).0) ∙ z in absurd (omega arith)
             go (Err x) e = ap answer_of e
 
   pub demand3 : (M : ℕ) (block : List (List ℕ)) → Block k L block → Agrees 𝓕 k L pieces block → Demand3 𝓕 M k L d elements pieces block
-  unfolding recovered_number recovered_values
+  unfolding recovered_values
   demand3 M block b a = record {
     closes = (λ e. (closes block b a).0 ((closed_told (completed d)).0 e), λ u. (closed_told (completed d)).1 ((closes block b a).1 u));
     yields = λ e {out} {last} {bytes} {r} w g y.
         let (p, q) = data_back block b a ((closed_told (completed d)).0 e) M out last r w g bytes y in
-        (ap recovered_number p, ap recovered_values p, q);
+        (ap number_of p, ap recovered_values p, q);
     breaks = λ e {out} {last} {r} w g.
         let c = (closed_told (completed d)).0 e in (
-          (eleven block b a c M out last r w g, λ y. ap recovered_number (broken block b a c M out last r w g y).0),
+          (eleven block b a c M out last r w g, λ y. ap number_of (broken block b a c M out last r w g y).0),
           λ y. (broken block b a c M out last r w g y).1,
         );
   }

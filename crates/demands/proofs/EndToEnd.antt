@@ -12,7 +12,7 @@ use lib.ListN.{length, get_or, take, drop, length-append}
 use borrow.Author.Tests.{eqb-false}
 use lib.Seq.{take_at}
 use Rattle.std.specs.Prelude.{Result, Ok, Err}
-use Rattle.answers.specs.Number.{Answer}
+use Rattle.answers.specs.Number.{Answer, number_of}
 use Rattle.answers.specs.declared.RLNCError.{RLNCError}
 use Rattle.answers.specs.declared.RLNCError.TheVariants.{PieceCountZero, DataLengthZero}
 use Rattle.galois.specs.FieldLaws.{FieldLaws}
@@ -35,7 +35,7 @@ use Rattle.encoder.specs.Entries.{padded_refusal, NewPadded}
 use Rattle.encoder.proofs.Truthful.{coded_truthful}
 use Rattle.recoder.proofs.Truthful.{payload_of, recoded_truthful}
 use Rattle.decoder.specs.declared.Decoder.{Decoder}
-use Rattle.decoder.specs.Answers.{recovered_number, recovered_values}
+use Rattle.decoder.specs.Answers.{recovered_values}
 use Rattle.decoder.specs.Entries.{Recovery}
 use Rattle.demands.specs.Demand3.{Closed}
 use Rattle.demands.specs.History.{History}
@@ -109,7 +109,7 @@ padded_rows M bytes k e block p =
 pub end_to_end : {𝓕 : FieldLaws} {M k : ℕ} {bytes buffer block : List ℕ} {e : Encoder} → M ≢ 0 → Bytes block → NewPadded M bytes buffer k (Ok e) block
     → {d : Decoder} {elements : List ℕ} {pieces : List (List ℕ)} → History 𝓕 k (piece_length (length bytes) k) d elements pieces → All (Sent 𝓕 e block) pieces
     → Closed d → {out last : List ℕ} {r : Result ℕ RLNCError} → k * piece_length (length bytes) k ≤ length out → Recovery M d elements out r last
-    → (recovered_number r ≡ 0) × (recovered_values r ≡ length bytes ∷ []) × (last ≡ bytes ++ drop (length bytes) out)
+    → (number_of r ≡ 0) × (recovered_values r ≡ length bytes ∷ []) × (last ≡ bytes ++ drop (length bytes) out)
 unfolding Agrees
 end_to_end {𝓕} {M} {k} {bytes} {buffer} {block} {e} m b n {d} {elements} {pieces} h sent c {out} {last} {r} w g =
     let p : Padded M bytes k e block = padded_of M bytes buffer k e block n in

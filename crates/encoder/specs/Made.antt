@@ -1,13 +1,9 @@
--- What making an encoder answers: the paper's number for each case, and the values, the piece count and the piece length.
+-- What making an encoder answers, and its values, the piece count and the piece length.
 use Rattle.std.specs.Prelude.{List, [], ◌∷◌, ℕ, Result, Ok, Err}
-use Rattle.answers.specs.Number.{Answer, code_of}
+use Rattle.answers.specs.Number.{Answer}
 use Rattle.answers.specs.declared.RLNCError.{RLNCError}
 use Rattle.block.specs.Refusal.{answered}
 use Rattle.encoder.specs.declared.Encoder.{Encoder}
-
-unfoldable pub made_number : Result Encoder RLNCError → ℕ
-made_number (Ok e) = 0
-made_number (Err e) = code_of e
 
 unfoldable pub made_values : Result Encoder RLNCError → List ℕ
 made_values (Ok e) = e.piece_count ∷ e.piece_byte_len ∷ []

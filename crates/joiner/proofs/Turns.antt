@@ -10,7 +10,7 @@ use lib.Dec.{ltb}
 use lib.ListN.{length, take, drop, length-append}
 use lib.Seq.{take_at}
 use Rattle.std.specs.Prelude.{Result, Ok, Err}
-use Rattle.answers.specs.Number.{Answer, number_of}
+use Rattle.answers.specs.Number.{Answer, code_of}
 use Rattle.answers.specs.declared.RLNCError.{RLNCError}
 use Rattle.answers.specs.declared.RLNCError.TheVariants.{NoRoom}
 use Rattle.galois.specs.FieldLaws.{FieldLaws}
@@ -94,7 +94,7 @@ module _ (𝓕 : FieldLaws) (m : Joiner) (bytes elements area out : List ℕ) (h
 
 -- ---- a turn that is not refused
 
-room : 0 < number_of (Err NoRoom)
+room : 0 < code_of NoRoom
 room = omega arith
 
 module _ (𝓕 : FieldLaws) (m : Joiner) (bytes elements area out : List ℕ) where

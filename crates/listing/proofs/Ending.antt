@@ -8,7 +8,7 @@ use borrow.Author.Tests.{lt-ltb, le-ltb}
 use lib.ListN.{length, take, drop, length-append}
 use lib.Seq.{length-take-le, take_at}
 use Rattle.std.specs.Prelude.{Option, None, Some, Result, Ok, Err}
-use Rattle.answers.specs.Number.{number_of}
+use Rattle.answers.specs.Number.{code_of}
 use Rattle.answers.specs.declared.RLNCError.{RLNCError}
 use Rattle.answers.specs.declared.RLNCError.TheVariants.{NoRoom, NotAllPiecesReceivedYet}
 use Rattle.block.specs.declared.BrokenPadding.{BrokenPadding}
@@ -93,12 +93,12 @@ module _ {j : Joining} {elements area out : List ℕ} where
 
   -- recovery refused
   pub ended_alone : {e : RLNCError} {n : ℕ} {text : List ℕ} {r : Result ℕ RLNCError} → line_room + (length area * 2 + 1) ≤ length out
-      → end_answer j.held elements (length area) ≡ Err e → Lined (end_line (number_of (Err e)) 0 j.repeats) out r text → r ≡ Ok n
+      → end_answer j.held elements (length area) ≡ Err e → Lined (end_line (code_of e) 0 j.repeats) out r text → r ≡ Ok n
       → Finished j elements area out (Ok (end.Alone n)) area text
   unfolding end_lines
   ended_alone {e} {n} h p l q =
       let ok = passed (length area) (length out) h in
-      let fits : length (end_line (number_of (Err e)) 0 j.repeats) ≤ length out = omega (arith, end_short (number_of (Err e)) 0 j.repeats) in
+      let fits : length (end_line (code_of e) 0 j.repeats) ≤ length out = omega (arith, end_short (code_of e) 0 j.repeats) in
       record { result = rw (ok, p) (ap (λ (m : ℕ). Ok (end.Alone m)) (put_size l fits n q)); left = rw (ok, p) refl; printed = rw (ok, p) (put_text l fits) }
 
   -- it did not

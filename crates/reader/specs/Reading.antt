@@ -1,6 +1,5 @@
 -- The reading of a stream as it comes: what is wanted next, and what the bytes that were wanted bring.
 use Rattle.std.specs.Prelude.{List, [], ◌∷◌, ℕ, ◌+◌, ltb, length, drop, Option, Some, None, Result, Ok, Err}
-use Rattle.answers.specs.Number.{code_of}
 use Rattle.answers.specs.declared.RLNCError.{RLNCError}
 use Rattle.answers.specs.declared.RLNCError.TheVariants.{BadState, CutRecord}
 use Rattle.linear.specs.Choice.{pick}
@@ -81,11 +80,7 @@ body_in came·.Start = 0
 body_in (came·.Piece g) = body_of g
 body_in came·.Cut = 0
 
--- the paper's number, and the values: the offset of the record that was opened
-unfoldable pub progress_number : Result Progress RLNCError → ℕ
-progress_number (Ok p) = 0
-progress_number (Err e) = code_of e
-
+-- the values: the offset of the record that was opened
 unfoldable pub progress_values : Result Progress RLNCError → List ℕ
 progress_values (Ok p) = p.reader.at ∷ []
 progress_values (Err e) = []

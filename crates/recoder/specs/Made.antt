@@ -1,13 +1,9 @@
--- What making a recoder answers: the paper's number for each case, and the values, the pieces to recode, their length and their coefficients.
+-- What making a recoder answers, and its values, the pieces to recode, their length and their coefficients.
 use Rattle.std.specs.Prelude.{List, [], ◌∷◌, ℕ, Result, Ok, Err}
-use Rattle.answers.specs.Number.{Answer, code_of}
+use Rattle.answers.specs.Number.{Answer}
 use Rattle.answers.specs.declared.RLNCError.{RLNCError}
 use Rattle.block.specs.Refusal.{answered}
 use Rattle.recoder.specs.declared.Recoder.{Recoder}
-
-unfoldable pub made_number : Result Recoder RLNCError → ℕ
-made_number (Ok d) = 0
-made_number (Err e) = code_of e
 
 unfoldable pub made_values : Result Recoder RLNCError → List ℕ
 made_values (Ok d) = d.num_pieces_received ∷ d.full_coded_piece_byte_len ∷ d.num_pieces_coded_together ∷ []

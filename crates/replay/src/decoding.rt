@@ -57,7 +57,7 @@ fn complete(rt: &HostRuntime, completed: Result<bool, RLNCError>) {
         Ok(done) => say::number(rt, usize::from(done)),
         Err(e) => {
             say::number(rt, 2);
-            say::answer(rt, Err(e));
+            say::error(rt, e);
         }
     }
 }

@@ -81,13 +81,10 @@ fn of(c: Call) -> DecoderMatrix {
 }
 
 fn matrix(rt: &HostRuntime, made: Result<DecoderMatrix, RLNCError>) {
-    match made {
-        Ok(now) => {
-            say::answer(rt, Ok(()));
-            say::number(rt, now.num_pieces_coded_together);
-            say::number(rt, now.rows);
-            say::number(rt, now.cols);
-        }
-        Err(e) => say::answer(rt, Err(e)),
+    say::answer(rt, made);
+    if let Ok(now) = made {
+        say::number(rt, now.num_pieces_coded_together);
+        say::number(rt, now.rows);
+        say::number(rt, now.cols);
     }
 }

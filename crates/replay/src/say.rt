@@ -1,5 +1,5 @@
 // What is printed of a call, each part behind a space.
-use answers::{Answer, RLNCError};
+use answers::RLNCError;
 use std::io::Print;
 
 // How many bytes are put into digits at a time.
@@ -14,32 +14,26 @@ pub(crate) fn number(rt: &HostRuntime, n: usize) {
     let _written = print!(rt; " {n}").is_ok();
 }
 
-pub(crate) fn answer(rt: &HostRuntime, a: Answer) {
+// The number of an answer, whatever it hands out.
+pub(crate) fn answer<T: Copy>(rt: &HostRuntime, a: Result<T, RLNCError>) {
     number(rt, usize::from(answers::number(a)));
+}
+
+pub(crate) fn error(rt: &HostRuntime, e: RLNCError) {
+    number(rt, usize::from(e.number()));
 }
 
 // The answer, and the record to keep: a refusal leaves the one that was there.
 pub(crate) fn kept<T: Copy>(rt: &HostRuntime, before: T, made: Result<T, RLNCError>) -> T {
-    match made {
-        Ok(next) => {
-            answer(rt, Ok(()));
-            next
-        }
-        Err(e) => {
-            answer(rt, Err(e));
-            before
-        }
-    }
+    answer(rt, made);
+    made.unwrap_or(before)
 }
 
 // The answer, and how many bytes there are.
 pub(crate) fn length(rt: &HostRuntime, made: Result<usize, RLNCError>) {
-    match made {
-        Ok(n) => {
-            answer(rt, Ok(()));
-            number(rt, n);
-        }
-        Err(e) => answer(rt, Err(e)),
+    answer(rt, made);
+    if let Ok(n) = made {
+        number(rt, n);
     }
 }
 
@@ -49,7 +43,7 @@ pub(crate) fn count(rt: &HostRuntime, counted: Result<usize, RLNCError>) {
         Ok(n) => number(rt, n),
         Err(e) => {
             put(rt, b" no");
-            answer(rt, Err(e));
+            error(rt, e);
         }
     }
 }

@@ -8,9 +8,7 @@ use Rattle.std.specs.Result.{result_unwrap_or}
 use Rattle.answers.specs.Number.{Answer, number_of}
 use Rattle.answers.specs.declared.RLNCError.{RLNCError}
 use Rattle.block.specs.Refusal.{if_ok, answered}
-use Rattle.block.specs.Counts.{count_number}
-use Rattle.decoder.specs.Answers.{complete_number}
-use Rattle.rlnc.specs.Given.{number_in, Given}
+use Rattle.rlnc.specs.Given.{Given}
 
 -- what `map` leaves of a result that a refusal chooses
 pub part_of : {A B : Type 0} {P : A → B → Type 0} (part : A → B) (a : Answer) (x : A) {m : Result A RLNCError} {c : Result B RLNCError}
@@ -23,7 +21,7 @@ part_of {A} {B} {P} part a x {c} h e s = go a c (subst (λ (w : Result A RLNCErr
     go (Err f) c t = t
 
 -- its number is that of the refusal, and its value there only where that is Ok
-number_is : {A : Type 0} (a : Answer) (x : A) → number_in (answered a x) ≡ number_of a
+number_is : {A : Type 0} (a : Answer) (x : A) → number_of (answered a x) ≡ number_of a
 number_is (Ok z) x = refl
 number_is (Err e) x = refl
 
@@ -33,19 +31,7 @@ value_is (Err e) x before = refl
 
 module _ (a : Answer) (n : ℕ) {before r after : ℕ} {c : Result ℕ RLNCError} (e : c ≡ answered a n) (g : Given c before r after) where
   pub given_number : r ≡ number_of a
-  given_number = g.number ∙ ap number_in e ∙ number_is a n
+  given_number = g.number ∙ ap number_of e ∙ number_is a n
 
   pub given_value : after ≡ if_ok a n before
   given_value = g.stored ∙ ap (λ (x : Result ℕ RLNCError). result_unwrap_or x before) e ∙ value_is a n before
-
--- ---- the number that is handed out is the paper's, of a count and of whether a decoder is complete
-
-pub count_numbered : (c : Result ℕ RLNCError) → number_in c ≡ count_number c
-unfolding count_number
-count_numbered (Ok n) = refl
-count_numbered (Err e) = refl
-
-pub complete_numbered : (c : Result Bool RLNCError) → number_in c ≡ complete_number c
-unfolding complete_number
-complete_numbered (Ok b) = refl
-complete_numbered (Err e) = refl

@@ -4,13 +4,13 @@ use mathlib.Core.Path.{◌≡◌, refl, ap, ◌∙◌, subst}
 use Prim.Native.Nat.{ℕ}
 use Rattle.std.specs.Prelude.{Option, None, Some, Result, Ok, Err, IsOkAnd, MatchResult, ok_or}
 use Rattle.std.specs.Result.{result_unwrap_or, result_ok}
+use Rattle.answers.specs.Number.{number_of}
 use Rattle.answers.specs.declared.RLNCError.{RLNCError}
 use Rattle.answers.specs.declared.RLNCError.TheVariants.{UnknownKind}
 use Rattle.stream.specs.declared.Geometry.{Geometry}
 use Rattle.stream.specs.declared.Record.{Record}
 use Rattle.stream.specs.Geometries.{geometry_of}
-use Rattle.stream.specs.Records.{record_number}
-use Rattle.rlnc.specs.Given.{number_in, Given}
+use Rattle.rlnc.specs.Given.{Given}
 use Rattle.rlnc.specs.Streams.{read_by, kind_in, kind_or, RecordGiven}
 
 -- reading a kind that is listed, and one that is not
@@ -35,7 +35,7 @@ read_given {P} {before} {r} {after} {e} {e'} {m} read same h s g =
 
 pub record_gave : {m : Result Record RLNCError} {c : Result ℕ RLNCError} {before r after : ℕ}
     → MatchResult m (λ x. IsOkAnd c (λ n. n ≡ kind_in x)) (λ e. c ≡ Err e) → Given c before r after → RecordGiven m before r after
-unfolding record_number kind_or
+unfolding kind_or
 record_gave {m} {c} {before} {r} {after} s g = go m c s g
   where
     go : (m : Result Record RLNCError) (c : Result ℕ RLNCError) → MatchResult m (λ x. IsOkAnd c (λ n. n ≡ kind_in x)) (λ e. c ≡ Err e)
@@ -43,4 +43,4 @@ record_gave {m} {c} {before} {r} {after} s g = go m c s g
     go (Ok x) (Ok y) s g = record { number = g.number; stored = g.stored ∙ s }
     go (Ok x) (Err y) s g = absurd s
     go (Err x) c s g =
-        record { number = g.number ∙ ap number_in s; stored = g.stored ∙ ap (λ (w : Result ℕ RLNCError). result_unwrap_or w before) s }
+        record { number = g.number ∙ ap number_of s; stored = g.stored ∙ ap (λ (w : Result ℕ RLNCError). result_unwrap_or w before) s }

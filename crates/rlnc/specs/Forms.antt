@@ -6,7 +6,7 @@ use Rattle.block.specs.Refusal.{if_ok}
 use Rattle.decoder.specs.declared.Decoder.{Decoder}
 use Rattle.decoder.specs.Records.{k_of, l_of}
 use Rattle.stored.specs.Forms.{size_geometry}
-use Rattle.stored.specs.Entries.{save_refusal, saved_form, loaded_number, load_refusal, geometry_in, load_result, load_matrix}
+use Rattle.stored.specs.Entries.{save_refusal, saved_form, load_refusal, geometry_in, load_result, load_matrix}
 
 -- the form of a decoder of listed sizes
 abbrev pub form_for : Decoder → List ℕ → List ℕ
@@ -20,6 +20,6 @@ pub record FormSaved (d : Decoder) (elements out : List ℕ) (n r n' : ℕ) (las
 
 -- the decoder loaded, or that whose numbers stood there
 pub record FormLoaded (form elements : List ℕ) (before : Decoder) (r : ℕ) (after : Decoder) (last : List ℕ) : Type 0 where
-  pub number : r ≡ loaded_number (load_result (geometry_in form) form (load_refusal form (length elements)))
+  pub number : r ≡ number_of (load_result (geometry_in form) form (load_refusal form (length elements)))
   pub stored : after ≡ result_unwrap_or (load_result (geometry_in form) form (load_refusal form (length elements))) before
   pub left : last ≡ if_ok (load_refusal form (length elements)) (load_matrix (geometry_in form) form elements) elements

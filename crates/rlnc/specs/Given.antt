@@ -2,7 +2,7 @@
 -- where there is no value.
 use Rattle.std.specs.Prelude.{◌≡◌, Bool, ℕ, Option, is_some, unwrap_or, Result, Ok, Err}
 use Rattle.std.specs.Result.{result_unwrap_or}
-use Rattle.answers.specs.Number.{code_of}
+use Rattle.answers.specs.Number.{number_of}
 use Rattle.answers.specs.declared.RLNCError.{RLNCError}
 
 -- the paper's table has no number for an inverse or a quotient: there is a byte, or there is none
@@ -10,13 +10,8 @@ pub record QuotientGiven (q : Option ℕ) (before : ℕ) (r : Bool) (after : ℕ
   pub told : r ≡ is_some q
   pub stored : after ≡ unwrap_or q before
 
--- the number of a result
-abbrev pub number_in : {A : Type 0} → Result A RLNCError → ℕ
-number_in (Ok x) = 0
-number_in (Err e) = code_of e
-
 pub record Given {A : Type 0} (c : Result A RLNCError) (before : A) (r : ℕ) (after : A) : Type 0 where
-  pub number : r ≡ number_in c
+  pub number : r ≡ number_of c
   pub stored : after ≡ result_unwrap_or c before
 
 abbrev pub CountGiven : Result ℕ RLNCError → ℕ → ℕ → ℕ → Type 0

@@ -9,7 +9,7 @@ use Rattle.stream.specs.declared.Geometry.{Geometry}
 use Rattle.stream.specs.declared.Record.{Record}
 use Rattle.stream.specs.declared.Record.TheVariants.{Piece, End}
 use Rattle.stream.specs.Geometries.{kind_of, pieces_of, length_of, geometry_of}
-use Rattle.stream.specs.Records.{record_number, write_refusal}
+use Rattle.stream.specs.Records.{write_refusal}
 
 -- what has been seen so far crosses as the kind of the pieces before, 0 where there were none; 22 where no pieces have that kind
 unfoldable pub seen_before : Option Geometry → Result (Option Geometry) RLNCError
@@ -34,7 +34,7 @@ kind_or before (Ok m) = kind_in m
 kind_or before (Err e) = before
 
 pub record RecordGiven (m : Result Record RLNCError) (before r after : ℕ) : Type 0 where
-  pub number : r ≡ record_number m
+  pub number : r ≡ number_of m
   pub stored : after ≡ kind_or before m
 
 -- a piece of an unlisted kind is 24, before 12 and 13

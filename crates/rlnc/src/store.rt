@@ -26,7 +26,6 @@ pub fn rlnc_stored_save(
     give(stored::save(decoder, elements, form), form_len)
 }
 
-#[tactic(auto, unfolding(stored::specs::Entries::loaded_number))]
 pub fn rlnc_stored_load(
     form: &[u8],
     elements: &mut [u8],

@@ -1,6 +1,6 @@
 -- Saving and loading: each one's order of refusals, its result and what it leaves in the lent buffer.
 use Rattle.std.specs.Prelude.{◌≡◌, Bool, ◌||◌, not, List, [], ◌∷◌, ◌++◌, ℕ, ◌*◌, ltb, length, drop, Option, Some, None, Result, Ok, Err}
-use Rattle.answers.specs.Number.{Answer, code_of}
+use Rattle.answers.specs.Number.{Answer}
 use Rattle.answers.specs.declared.RLNCError.{RLNCError}
 use Rattle.answers.specs.declared.RLNCError.TheVariants.{NoRoom, BadState, UnknownKind, CutRecord}
 use Rattle.linear.specs.Choice.{pick}
@@ -14,18 +14,10 @@ use Rattle.decoder.specs.Answers.{values_of}
 use Rattle.decoder.specs.Entries.{decoder_of}
 use Rattle.stored.specs.Forms.{form_size, matrix_size, stored_geometry, size_geometry, form_of, form_rows, form_taken, form_matrix, form_decoder}
 
--- the paper's numbers, and the values: how many bytes were written; the decoder's
-unfoldable pub saved_number : Result ℕ RLNCError → ℕ
-saved_number (Ok n) = 0
-saved_number (Err e) = code_of e
-
+-- the values: how many bytes were written; the decoder's
 unfoldable pub saved_values : Result ℕ RLNCError → List ℕ
 saved_values (Ok n) = n ∷ []
 saved_values (Err e) = []
-
-unfoldable pub loaded_number : Result Decoder RLNCError → ℕ
-loaded_number (Ok d) = 0
-loaded_number (Err e) = code_of e
 
 unfoldable pub loaded_values : Result Decoder RLNCError → List ℕ
 loaded_values (Ok d) = values_of d

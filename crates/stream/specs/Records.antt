@@ -1,6 +1,6 @@
 -- One record of a stream.
 use Rattle.std.specs.Prelude.{◌≡◌, Bool, true, not, List, [], ◌∷◌, ℕ, ◌+◌, eqb, ltb, length, Option, Some, None, Result, Ok, Err}
-use Rattle.answers.specs.Number.{Answer, code_of}
+use Rattle.answers.specs.Number.{Answer}
 use Rattle.answers.specs.declared.RLNCError.{RLNCError}
 use Rattle.answers.specs.declared.RLNCError.TheVariants.{InvalidPieceLength, InvalidOutputBuffer, UnknownKind, CutRecord, MixedKinds}
 use Rattle.linear.specs.Choice.{pick}
@@ -29,11 +29,7 @@ unfoldable pub record_at : Option Geometry → List ℕ → Result Record RLNCEr
 record_at so_far [] = Err CutRecord
 record_at so_far (kind ∷ rest) = kind_record so_far kind (length rest)
 
--- the paper's number of a record, and its value: the kind of a piece, which tells the geometry
-unfoldable pub record_number : Result Record RLNCError → ℕ
-record_number (Ok r) = 0
-record_number (Err e) = code_of e
-
+-- the value of a record: the kind of a piece, which tells the geometry
 unfoldable pub record_values : Result Record RLNCError → List ℕ
 record_values (Ok (Piece g)) = kind_of g ∷ []
 record_values (Ok End) = []
