@@ -1,7 +1,6 @@
 -- What a refusal chooses, and a part of it, handed out as its number and its value.
 -- Assumes nothing.
 use mathlib.Core.Path.{◌≡◌, refl, ap, ◌∙◌, subst}
-use mathlib.Core.Bool.{Bool}
 use Prim.Native.Nat.{ℕ}
 use Rattle.std.specs.Prelude.{Result, Ok, Err, IsOkAnd, MatchResult}
 use Rattle.std.specs.Result.{result_unwrap_or}

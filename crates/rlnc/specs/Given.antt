@@ -1,6 +1,6 @@
 -- A result handed out in two parts: its number, or whether there is one, and what then stands where its value goes. That keeps what stood there
 -- where there is no value.
-use Rattle.std.specs.Prelude.{◌≡◌, Bool, ℕ, Option, is_some, unwrap_or, Result, Ok, Err}
+use Rattle.std.specs.Prelude.{◌≡◌, Bool, ℕ, Option, is_some, unwrap_or, Result}
 use Rattle.std.specs.Result.{result_unwrap_or}
 use Rattle.answers.specs.Number.{number_of}
 use Rattle.answers.specs.declared.RLNCError.{RLNCError}
