@@ -9,10 +9,10 @@ ghost use Rattle.block.specs.Reading.{last_marker, reading};
 use block::{BOUNDARY_MARKER, BrokenPadding};
 
 #[derive(Clone, Copy)]
-pub struct BlockIn<'a> {
-    pub k: usize,
-    pub len: usize,
-    pub elements: &'a [u8],
+pub(crate) struct BlockIn<'a> {
+    pub(crate) k: usize,
+    pub(crate) len: usize,
+    pub(crate) elements: &'a [u8],
     ghost some_bytes: { 0 < len },
     ghost room: { k * (k + len) ≤ length elements.now },
 }
@@ -32,7 +32,7 @@ impl<'a> BlockIn<'a> {
 
     // What the padding of the block tells.
     #[tactic(auto, using(crate::proofs::Marker::index_in, crate::proofs::Payload::length_bytes, crate::proofs::Payload::bytes_within, crate::proofs::Search::reads_none, crate::proofs::Search::reads_zero, crate::proofs::Search::reads_tail, crate::proofs::Search::reads_data))]
-    pub fn data_len(&self) -> Result<usize, BrokenPadding>
+    pub(crate) fn data_len(&self) -> Result<usize, BrokenPadding>
         ensures told { result ≡ reading marker (bytes self.now) }
         ensures inside { IfOk result (λ n. n < self.now.k * self.now.len) }
     {
@@ -76,7 +76,7 @@ impl<'a> BlockIn<'a> {
 
     // The block's first bytes, as many as `data` has.
     // Not by chunks_mut: a proof does not see what was written through its parts.
-    pub fn copy_to(&self, data: &mut [u8])
+    pub(crate) fn copy_to(&self, data: &mut [u8])
         requires { length «data».old ≤ self.now.k * self.now.len }
         ensures { «data».new ≡ take (length «data».old) (bytes self.now) }
     {

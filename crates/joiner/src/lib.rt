@@ -162,7 +162,7 @@ fn close(
         },
         Then::Stop(e) => Closing {
             ending: Ending::Stopped,
-            size: listing::stop_line(out, e, at).unwrap(),
+            size: listing::stop_line(out, Err(e), at).unwrap(),
         },
     }
 }

@@ -2,7 +2,7 @@
 #![tactic(auto)]
 
 ghost use Rattle.std.specs.Prelude.{◌≡◌, ◌++◌, ◌+◌, ◌*◌, ◌≤◌, length, [], ◌∷◌, ◌<◌};
-ghost use Rattle.answers.specs.Number.{code_of, number_of};
+ghost use Rattle.answers.specs.Number.{number_of};
 ghost use Rattle.arrayvec.specs.ArrayString.{array_string_len};
 ghost use Rattle.listing.specs.Text.{decimal};
 ghost use Rattle.listing.specs.Lines.{header_line, piece_line, end_line, stop_line, data_line};
@@ -87,14 +87,14 @@ pub fn end_line(
     put_line(line.as_str(), out)
 }
 
-// The line of a stream that stops: the error's number, and the byte offset of the record that got it.
+// The line of a stream that stops: the answer, and the byte offset of the record that got it.
 #[tactic(auto, unfolding(crate::specs::Lines::stop_line))]
-pub fn stop_line(out: &mut [u8], error: RLNCError, at: u64) -> Result<usize, RLNCError>
-    ensures { Lined (stop_line (code_of error) at) out.old result out.new }
+pub fn stop_line(out: &mut [u8], answer: Answer, at: u64) -> Result<usize, RLNCError>
+    ensures { Lined (stop_line (number_of answer) at) out.old result out.new }
 {
     let mut line = Line::new();
     line.push_str("stop ");
-    put_number(&mut line, u64::from(error.number()), ' ');
+    put_number(&mut line, u64::from(answers::number(answer)), ' ');
     put_number(&mut line, at, '\n');
     put_line(line.as_str(), out)
 }

@@ -11,7 +11,6 @@ use Rattle.stream.specs.Geometries.{pieces_of, body_of}
 use Rattle.decoder.specs.declared.Decoder.{Decoder}
 use Rattle.decoder.specs.Records.{k_of, l_of, f_of, rows_in, taken_by, bad_state}
 use Rattle.decoder.specs.Answers.{values_of}
-use Rattle.decoder.specs.Entries.{decoder_of}
 use Rattle.stored.specs.Forms.{form_size, matrix_size, stored_geometry, size_geometry, form_of, form_rows, form_taken, form_matrix, form_decoder}
 
 -- the values: how many bytes were written; the decoder's
@@ -66,7 +65,8 @@ geometry_in (kind ∷ rest) = stored_geometry kind
 
 -- the decoder of such a form; with no geometry the refusal is an error, and none is handed out
 unfoldable pub load_result : Option Geometry → List ℕ → Answer → Result Decoder RLNCError
-load_result None form refusal = answered refusal (decoder_of 0 0 0 0)
+load_result None form (Ok z) = Err UnknownKind
+load_result None form (Err e) = Err e
 load_result (Some g) form refusal = answered refusal (form_decoder g form)
 
 unfoldable pub load_matrix : Option Geometry → List ℕ → List ℕ → List ℕ
