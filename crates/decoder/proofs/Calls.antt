@@ -20,17 +20,17 @@ use Rattle.decoder.specs.Answers.{taken_number, kept}
 use Rattle.decoder.specs.Entries.{take_refusal, rows_after, after, taking, Decoded}
 use Rattle.decoder.specs.Calls.{number_next, record_next, buffer_next}
 
-number_answered : (a : Answer) (t : Taken) → taken_number (answered a t) ≡ if_ok a (taken_number (Ok t)) (number_of a)
+pub number_answered : (a : Answer) (t : Taken) → taken_number (answered a t) ≡ if_ok a (taken_number (Ok t)) (number_of a)
 unfolding taken_number
 number_answered (Ok z) t = refl
 number_answered (Err e) t = refl
 
-kept_answered : (d : Decoder) (a : Answer) (t : Taken) → kept d (answered a t) ≡ if_ok a (kept d (Ok t)) d
+pub kept_answered : (d : Decoder) (a : Answer) (t : Taken) → kept d (answered a t) ≡ if_ok a (kept d (Ok t)) d
 unfolding kept
 kept_answered d (Ok z) t = refl
 kept_answered d (Err e) t = refl
 
-kept_one : (d e : Decoder) (same : Bool) → kept d (Ok (pick same (NotUseful e) (Useful e))) ≡ e
+pub kept_one : (d e : Decoder) (same : Bool) → kept d (Ok (pick same (NotUseful e) (Useful e))) ≡ e
 unfolding kept
 kept_one d e true = refl
 kept_one d e false = refl
