@@ -8,26 +8,26 @@ ghost use Rattle.answers.specs.Number.{code_of, number_of};
 // All but PieceNotUseful are refusals.
 #[derive(Clone, Copy, PartialEq, Eq, Debug)]
 pub enum RLNCError {
-    CodingVectorLengthMismatch,
-    DataLengthMismatch,
-    PieceCountZero,
-    DataLengthZero,
-    PieceLengthZero,
-    NotEnoughPiecesToRecode,
-    PieceLengthTooShort,
-    PieceNotUseful,
-    ReceivedAllPieces,
-    NotAllPiecesReceivedYet,
-    InvalidDecodedDataFormat,
-    InvalidPieceLength,
-    InvalidOutputBuffer,
-    SizeOverLimit,
-    NoRoom,
-    BadState,
-    TooManyTaken,
-    UnknownKind,
-    CutRecord,
-    MixedKinds,
+    CodingVectorLengthMismatch = 1,
+    DataLengthMismatch = 2,
+    PieceCountZero = 3,
+    DataLengthZero = 4,
+    PieceLengthZero = 5,
+    NotEnoughPiecesToRecode = 6,
+    PieceLengthTooShort = 7,
+    PieceNotUseful = 8,
+    ReceivedAllPieces = 9,
+    NotAllPiecesReceivedYet = 10,
+    InvalidDecodedDataFormat = 11,
+    InvalidPieceLength = 12,
+    InvalidOutputBuffer = 13,
+    SizeOverLimit = 20,
+    NoRoom = 21,
+    BadState = 22,
+    TooManyTaken = 23,
+    UnknownKind = 24,
+    CutRecord = 25,
+    MixedKinds = 26,
 }
 
 pub type Answer = Result<(), RLNCError>;
@@ -36,28 +36,7 @@ impl RLNCError {
     pub fn number(self) -> u8
         ensures { result ≡ code_of self }
     {
-        match self {
-            RLNCError::CodingVectorLengthMismatch => 1,
-            RLNCError::DataLengthMismatch => 2,
-            RLNCError::PieceCountZero => 3,
-            RLNCError::DataLengthZero => 4,
-            RLNCError::PieceLengthZero => 5,
-            RLNCError::NotEnoughPiecesToRecode => 6,
-            RLNCError::PieceLengthTooShort => 7,
-            RLNCError::PieceNotUseful => 8,
-            RLNCError::ReceivedAllPieces => 9,
-            RLNCError::NotAllPiecesReceivedYet => 10,
-            RLNCError::InvalidDecodedDataFormat => 11,
-            RLNCError::InvalidPieceLength => 12,
-            RLNCError::InvalidOutputBuffer => 13,
-            RLNCError::SizeOverLimit => 20,
-            RLNCError::NoRoom => 21,
-            RLNCError::BadState => 22,
-            RLNCError::TooManyTaken => 23,
-            RLNCError::UnknownKind => 24,
-            RLNCError::CutRecord => 25,
-            RLNCError::MixedKinds => 26,
-        }
+        self as u8
     }
 }
 

@@ -10,6 +10,11 @@ use Rattle.stream.specs.declared.Record.{Record}
 use Rattle.stream.specs.declared.Record.TheVariants.{Piece, End}
 use Rattle.stream.specs.Geometries.{kind_of, body_of, geometry_of, same_geometry}
 
+-- the byte that opens a record
+abbrev pub record_kind : Record → ℕ
+record_kind (Piece g) = kind_of g
+record_kind End = 0x01
+
 -- a piece of this geometry may follow those of the geometry so far
 unfoldable pub fits_in : Option Geometry → Geometry → Bool
 fits_in None g = true

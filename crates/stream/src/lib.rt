@@ -4,17 +4,25 @@
 
 ghost use Rattle.std.specs.Prelude.{◌≡◌, Some};
 ghost use Rattle.stream.specs.Geometries.{pieces_of, length_of, kind_of, body_of, Names};
-ghost use Rattle.stream.specs.Records.{fits_in, piece_record, kind_record, record_at, Written};
+ghost use Rattle.stream.specs.Records.{record_kind, fits_in, piece_record, kind_record, record_at, Written};
 
 use answers::{Answer, RLNCError};
 
 // The three sizes that pieces come in: 3 of 2 bytes, 16 of 240, 32 of 480.
 #[derive(Clone, Copy, PartialEq, Eq, Debug)]
 pub enum Geometry {
-    Of3By2,
-    Of16By240,
-    Of32By480,
+    Of3By2 = 0x11,
+    Of16By240 = 0x12,
+    Of32By480 = 0x13,
 }
+
+// The sizes of the largest one.
+pub const MOST_PIECES: usize = 32;
+
+pub const MOST_BYTES: usize = 480;
+
+// The kind byte of the end record.
+const END_KIND: u8 = 0x01;
 
 // What stands at the front of some bytes.
 #[derive(Clone, Copy, PartialEq, Eq, Debug)]
@@ -32,7 +40,7 @@ impl Geometry {
         match self {
             Geometry::Of3By2 => 3,
             Geometry::Of16By240 => 16,
-            Geometry::Of32By480 => 32,
+            Geometry::Of32By480 => MOST_PIECES,
         }
     }
 
@@ -42,7 +50,7 @@ impl Geometry {
         match self {
             Geometry::Of3By2 => 2,
             Geometry::Of16By240 => 240,
-            Geometry::Of32By480 => 480,
+            Geometry::Of32By480 => MOST_BYTES,
         }
     }
 
@@ -50,11 +58,7 @@ impl Geometry {
     pub fn kind(self) -> u8
         ensures { result ≡ kind_of self }
     {
-        match self {
-            Geometry::Of3By2 => 0x11,
-            Geometry::Of16By240 => 0x12,
-            Geometry::Of32By480 => 0x13,
-        }
+        self as u8
     }
 
     // The bytes of a whole piece.
@@ -73,11 +77,19 @@ impl TryFrom<u8> for Geometry {
 
     #[tactic(auto, unfolding(crate::specs::Geometries::geometry_of))]
     fn try_from(kind: u8) -> Result<Self, RLNCError> {
-        match kind {
-            0x11 => Ok(Geometry::Of3By2),
-            0x12 => Ok(Geometry::Of16By240),
-            0x13 => Ok(Geometry::Of32By480),
-            _ => Err(RLNCError::UnknownKind),
+        let listed = Geometry::ALL.into_iter().find(|g| g.kind() == kind);
+        listed.ok_or(RLNCError::UnknownKind)
+    }
+}
+
+impl Record {
+    // The byte that opens it.
+    pub fn kind(self) -> u8
+        ensures { result ≡ record_kind self }
+    {
+        match self {
+            Record::Piece(g) => g.kind(),
+            Record::End => END_KIND,
         }
     }
 }
@@ -95,12 +107,10 @@ fn fits(so_far: Option<Geometry>, g: Geometry) -> bool
 fn piece_record(so_far: Option<Geometry>, g: Geometry, behind: usize) -> Result<Record, RLNCError>
     ensures { result ≡ piece_record so_far behind (Some g) }
 {
-    let mixed = !fits(so_far, g);
-    let cut = behind < g.body_len();
-    if mixed {
+    if !fits(so_far, g) {
         return Err(RLNCError::MixedKinds);
     }
-    if cut {
+    if behind < g.body_len() {
         return Err(RLNCError::CutRecord);
     }
     Ok(Record::Piece(g))
@@ -111,10 +121,10 @@ fn piece_record(so_far: Option<Geometry>, g: Geometry, behind: usize) -> Result<
 pub fn read_kind(so_far: Option<Geometry>, kind: u8, behind: usize) -> Result<Record, RLNCError>
     ensures { result ≡ kind_record so_far kind behind }
 {
-    match kind {
-        0x01 => Ok(Record::End),
-        _ => piece_record(so_far, Geometry::try_from(kind)?, behind),
+    if kind == END_KIND {
+        return Ok(Record::End);
     }
+    piece_record(so_far, Geometry::try_from(kind)?, behind)
 }
 
 // The record at the front of the bytes.
