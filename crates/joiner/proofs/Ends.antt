@@ -6,7 +6,7 @@ use Prim.Native.Nat.{ℕ, ◌≤◌}
 use native.Mathlib.Omega.{arith}
 use lib.ListN.{length, take, drop, length-append, length-drop, take-append-drop}
 use lib.Seq.{length-take-le, drop-append-le}
-use Rattle.std.specs.Prelude.{Result, Ok, Err, IsOk, is_ok}
+use Rattle.std.specs.Prelude.{Option, Some, None, MatchOption, Result, Ok, Err, IsOk, is_ok}
 use Rattle.answers.specs.Number.{Answer, code_of}
 use Rattle.answers.specs.declared.RLNCError.{RLNCError}
 use Rattle.block.specs.Refusal.{if_ok}
@@ -15,11 +15,10 @@ use Rattle.reader.specs.declared.Then.TheVariants as then·
 use Rattle.reader.specs.Pump.{back}
 use Rattle.listing.specs.declared.join.Joining.{Joining}
 use Rattle.listing.specs.declared.join.End.{End}
-use Rattle.listing.specs.declared.join.End.TheVariants as end
 use Rattle.listing.specs.Lines.{stop_line}
 use Rattle.listing.specs.Puts.{Lined}
 use Rattle.listing.specs.Listing.{end_answer, data_of, end_lines, block_room}
-use Rattle.listing.specs.Steps.{Finished}
+use Rattle.listing.specs.Steps.{ended, Finished}
 use Rattle.listing.proofs.Short.{stop_short}
 use Rattle.listing.proofs.Counting.{put_ok}
 use Rattle.listing.proofs.Ending.{ends}
@@ -66,16 +65,14 @@ module _ (j : Joining) (elements area : List ℕ) {out part last : List ℕ} {r 
   bytes = data_of j.held elements
 
   -- how recovery's answer decides
-  ended : Answer → End
-  ended a = if_ok a (end.Data (length bytes) (length (end_lines j elements block_room))) (end.Alone (length (end_lines j elements block_room)))
+  found : Answer → Option ℕ
+  found a = if_ok a (Some (length bytes)) None
 
-  ending : Answer → Ending
-  ending a = if_ok a (Rebuilt (length bytes)) Open
-
-  outcome_is : (r ≡ Ok (ended answer)) × (part ≡ if_ok answer (over bytes (take block_room area)) (take block_room area)) × (last ≡ over (end_lines j elements block_room) out)
-  unfolding answer ended
+  outcome_is : (r ≡ Ok (ended (found answer) (length (end_lines j elements block_room)))) × (part ≡ if_ok answer (over bytes (take block_room area)) (take block_room area))
+      × (last ≡ over (end_lines j elements block_room) out)
+  unfolding answer found
   outcome_is =
-      subst (λ (n : ℕ). (r ≡ Ok (if_ok (end_answer j.held elements n) (end.Data (length bytes) (length (end_lines j elements n))) (end.Alone (length (end_lines j elements n)))))
+      subst (λ (n : ℕ). (r ≡ Ok (ended (if_ok (end_answer j.held elements n) (Some (length bytes)) None) (length (end_lines j elements n))))
       × (part ≡ if_ok (end_answer j.held elements n) (over bytes (take block_room area)) (take block_room area)) × (last ≡ over (end_lines j elements n) out)) same
       (one_finished x (ends j elements (take block_room area) out (omega (arith, same, h))))
 
@@ -87,33 +84,23 @@ module _ (j : Joining) (elements area : List ℕ) {out part last : List ℕ} {r 
   pub finish_always : IsOk r
   finish_always = ap is_ok outcome_is.0
 
-  finished : (c : Closing) → c.ending ≡ ending answer → c.size ≡ length (end_lines j elements block_room) → length part ≡ length (take block_room area)
+  -- and so how it ended
+  ends_by : {e : Ending} (a : Answer) → MatchOption (found a) (e ≡ Open) (λ n. e ≡ Rebuilt n) → e ≡ if_ok a (Rebuilt (length bytes)) Open
+  unfolding found
+  ends_by (Ok z) h = h
+  ends_by (Err b) h = h
+
+  pub finish_closes : {x : End} → r ≡ Ok x → length part ≡ length (take block_room area) → (c : Closing) → MatchOption x.«data» (c.ending ≡ Open) (λ n. c.ending ≡ Rebuilt n) → c.size ≡ x.size
       → Closed (state j elements) then·.End 0 area out c (part ++ drop block_room area) last
-  unfolding ending_by found_by back answer ending
-  finished c p q e =
+  unfolding ending_by found_by back answer
+  finish_closes {x} is e c p q =
+      let same : x ≡ ended (found answer) (length (end_lines j elements block_room)) =
+      let b : ◌≡◌ {A = Result End RLNCError} (Ok x) (Ok (ended (found answer) (length (end_lines j elements block_room)))) = sym is ∙ outcome_is.0 in cc in
       record {
-        ends = p;
-        says = λ 𝓕. record { counts = q; puts = outcome_is.2 };
+        ends = ends_by answer (subst (λ (y : End). MatchOption y.«data» (c.ending ≡ Open) (λ n. c.ending ≡ Rebuilt n)) same p);
+        says = λ 𝓕. record { counts = q ∙ ap (λ (y : End). y.size) same; puts = outcome_is.2 };
         block = kept_block (end_answer j.held elements block_room) e outcome_is.1;
       }
-
-  pub finish_data : (n size : ℕ) → length part ≡ length (take block_room area) → r ≡ Ok (end.Data n size)
-      → Closed (state j elements) then·.End 0 area out (record { ending = Rebuilt n; size = size }) (part ++ drop block_room area) last
-  unfolding ended ending
-  finish_data n size e p = let u = go answer (sym p ∙ outcome_is.0) in finished (record { ending = Rebuilt n; size = size }) u.0 u.1 e
-    where
-      go : (a : Answer) → ◌≡◌ {A = Result End RLNCError} (Ok (end.Data n size)) (Ok (ended a)) → (Rebuilt n ≡ ending a) × (size ≡ length (end_lines j elements block_room))
-      go (Ok z) e = let s : n ≡ length bytes = cc in (ap Rebuilt s, cc)
-      go (Err b) e = let z : ◌≡◌ {A = ℕ} 0 1 = cc in absurd (omega arith)
-
-  pub finish_alone : (size : ℕ) → length part ≡ length (take block_room area) → r ≡ Ok (end.Alone size)
-      → Closed (state j elements) then·.End 0 area out (record { ending = Open; size = size }) (part ++ drop block_room area) last
-  unfolding ended ending
-  finish_alone size e p = let u = go answer (sym p ∙ outcome_is.0) in finished (record { ending = Open; size = size }) u.0 u.1 e
-    where
-      go : (a : Answer) → ◌≡◌ {A = Result End RLNCError} (Ok (end.Alone size)) (Ok (ended a)) → (Open ≡ ending a) × (size ≡ length (end_lines j elements block_room))
-      go (Ok z) e = let z : ◌≡◌ {A = ℕ} 0 1 = cc in absurd (omega arith)
-      go (Err b) e = (refl, cc)
 
 -- ---- what the record is
 

@@ -24,7 +24,7 @@ pub const BLOCK_LEN: usize = 15360;
 pub const TEXT_LEN: usize = 2 * LINE_LEN + 2 * BLOCK_LEN + 1;
 
 // How it ended: so many bytes of data stand at the front of the lent block; there are none; or the stream stopped.
-#[derive(Clone, Copy)]
+#[derive(Clone, Copy, PartialEq, Eq, Debug)]
 pub enum Ending {
     NotYet,
     Rebuilt(usize),
@@ -47,7 +47,7 @@ pub struct Fed {
     pub later: usize,
 }
 
-#[derive(Clone, Copy)]
+#[derive(Clone, Copy, PartialEq, Eq, Debug)]
 struct Closing {
     ending: Ending,
     size: usize,
@@ -88,19 +88,23 @@ impl Joiner {
             return Err(RLNCError::NoRoom);
         }
         let Progress { reader, came, then } = self.reader.read(input)?;
-        let step = begin(self.joining, f, came, input, elements, out)?;
-        let joining = step.joining;
-        let first = step.size;
-        let closing = close(joining, then, reader.at, elements, data, &mut out[first..]);
+        let Step {
+            joining,
+            size: first,
+        } = begin(self.joining, f, came, input, elements, out)?;
+        let Closing {
+            ending,
+            size: later,
+        } = close(joining, then, reader.at, elements, data, &mut out[first..]);
         let joiner = Joiner {
             reader,
             joining,
-            ending: closing.ending,
+            ending,
         };
         Ok(Fed {
             joiner,
             first,
-            later: closing.size,
+            later,
         })
     }
 }
@@ -147,19 +151,13 @@ fn close(
             ending: Ending::NotYet,
             size: 0,
         },
-        Then::End => match joining
-            .finish(elements, &mut data[..BLOCK_LEN], out)
-            .unwrap()
-        {
-            End::Data(n, size) => Closing {
-                ending: Ending::Rebuilt(n),
-                size,
-            },
-            End::Alone(size) => Closing {
-                ending: Ending::Open,
-                size,
-            },
-        },
+        Then::End => {
+            let End { data, size } = joining
+                .finish(elements, &mut data[..BLOCK_LEN], out)
+                .unwrap();
+            let ending = data.map_or(Ending::Open, Ending::Rebuilt);
+            Closing { ending, size }
+        }
         Then::Stop(e) => Closing {
             ending: Ending::Stopped,
             size: listing::stop_line(out, Err(e), at).unwrap(),

@@ -19,11 +19,10 @@ use Rattle.block.proofs.Reading.{Reason, reason, no_marker, no_data, no_zeros, c
 use Rattle.decoder.specs.declared.Decoder.{Decoder}
 use Rattle.decoder.specs.Entries.{block_in, recover_refusal, Recovery}
 use Rattle.listing.specs.declared.join.Joining.{Joining}
-use Rattle.listing.specs.declared.join.End.TheVariants as end
 use Rattle.listing.specs.Lines.{end_line, data_line}
 use Rattle.listing.specs.Puts.{Lined}
 use Rattle.listing.specs.Listing.{end_answer, data_of, end_lines}
-use Rattle.listing.specs.Steps.{line_room, end_refusal, Recovered, Finished}
+use Rattle.listing.specs.Steps.{line_room, end_refusal, ended, Recovered, Finished}
 use Rattle.listing.proofs.Answered.{with_value, with_error}
 use Rattle.listing.proofs.Counting.{put_size, put_text}
 use Rattle.listing.proofs.Hex.{length_data_line}
@@ -94,19 +93,19 @@ module _ {j : Joining} {elements area out : List ℕ} where
   -- recovery refused
   pub ended_alone : {e : RLNCError} {n : ℕ} {text : List ℕ} {r : Result ℕ RLNCError} → line_room + (length area * 2 + 1) ≤ length out
       → end_answer j.held elements (length area) ≡ Err e → Lined (end_line (code_of e) 0 j.repeats) out r text → r ≡ Ok n
-      → Finished j elements area out (Ok (end.Alone n)) area text
+      → Finished j elements area out (Ok (ended None n)) area text
   unfolding end_lines
   ended_alone {e} {n} h p l q =
       let ok = passed (length area) (length out) h in
       let fits : length (end_line (code_of e) 0 j.repeats) ≤ length out = omega (arith, end_short (code_of e) 0 j.repeats) in
-      record { result = rw (ok, p) (ap (λ (m : ℕ). Ok (end.Alone m)) (put_size l fits n q)); left = rw (ok, p) refl; printed = rw (ok, p) (put_text l fits) }
+      record { result = rw (ok, p) (ap (λ (m : ℕ). Ok (ended None m)) (put_size l fits n q)); left = rw (ok, p) refl; printed = rw (ok, p) (put_text l fits) }
 
   -- it did not
   pub ended_data : {n size : ℕ} {bytes kept text : List ℕ} {r : Result ℕ RLNCError} → line_room + (length area * 2 + 1) ≤ length out
       → (end_answer j.held elements (length area) ≡ Ok tt) × (n ≡ length (data_of j.held elements))
       × (kept ≡ data_of j.held elements ++ drop (length (data_of j.held elements)) area)
       → bytes ≡ data_of j.held elements → length bytes ≤ length area → Lined (end_line 0 (length bytes) j.repeats ++ data_line bytes) out r text → r ≡ Ok size
-      → Finished j elements area out (Ok (end.Data n size)) kept text
+      → Finished j elements area out (Ok (ended (Some n) size)) kept text
   unfolding end_lines
   ended_data {n} {size} {bytes} {r = r} h f d few l q =
       let ok = passed (length area) (length out) h in
@@ -114,7 +113,7 @@ module _ {j : Joining} {elements area out : List ℕ} where
       let lines : end_line 0 (length bytes) j.repeats ++ data_line bytes ≡ end_line 0 (length (data_of j.held elements)) j.repeats ++ data_line (data_of j.held elements) =
       λ i. end_line 0 (length (d i)) j.repeats ++ data_line (d i) in
       record {
-        result = rw (ok, f.0) (λ i. Ok (end.Data (f.1 i) ((put_size l fits size q ∙ ap length lines) i)));
+        result = rw (ok, f.0) (λ i. Ok (ended (Some (f.1 i)) ((put_size l fits size q ∙ ap length lines) i)));
         left = rw (ok, f.0) f.2;
         printed = rw (ok, f.0) (put_text l fits ∙ λ i. lines i ++ drop (length (lines i)) out);
       }
@@ -122,7 +121,7 @@ module _ {j : Joining} {elements area out : List ℕ} where
 -- the one outcome of an end that is not refused
 pub ends : (j : Joining) (elements area out : List ℕ) → line_room + (length area * 2 + 1) ≤ length out
     → Finished j elements area out
-    (Ok (if_ok (end_answer j.held elements (length area)) (end.Data (length (data_of j.held elements)) (length (end_lines j elements (length area)))) (end.Alone (length (end_lines j elements (length area))))))
+    (Ok (ended (if_ok (end_answer j.held elements (length area)) (Some (length (data_of j.held elements))) None) (length (end_lines j elements (length area)))))
     (if_ok (end_answer j.held elements (length area)) (data_of j.held elements ++ drop (length (data_of j.held elements)) area) area)
     (end_lines j elements (length area) ++ drop (length (end_lines j elements (length area))) out)
 ends j elements area out h = let ok = passed (length area) (length out) h in record { result = rw ok refl; left = rw ok refl; printed = rw ok refl }

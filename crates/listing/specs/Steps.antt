@@ -15,7 +15,6 @@ use Rattle.decoder.specs.Calls.{number_next, record_next, buffer_next}
 use Rattle.listing.specs.declared.join.Joining.{Joining}
 use Rattle.listing.specs.declared.join.Step.{Step}
 use Rattle.listing.specs.declared.join.End.{End}
-use Rattle.listing.specs.declared.join.End.TheVariants as end
 use Rattle.listing.specs.Joining.{decoder_for, matrix_for, joined, line_of, joined_after, elements_after, line_for}
 use Rattle.listing.specs.Listing.{end_answer, data_of, end_lines}
 
@@ -74,13 +73,16 @@ pub record Recovered (held : Option Decoder) (elements area : List ℕ) (r : Res
   pub result : r ≡ answered (end_answer held elements (length area)) (length (data_of held elements))
   pub left : kept ≡ if_ok (end_answer held elements (length area)) (data_of held elements ++ drop (length (data_of held elements)) area) area
 
+-- how many bytes of data there are, if any, and how long the lines are
+abbrev pub ended : Option ℕ → ℕ → End
+ended found n = record { «data» = found; size = n }
+
 -- the lines of the end; the data stand where recovery writes them
 pub record Finished (j : Joining) (elements area out : List ℕ) (r : Result End RLNCError) (kept text : List ℕ) : Type 0 where
   pub result :
       r
       ≡ answered (end_refusal (length area) (length out))
-      (if_ok (end_answer j.held elements (length area)) (end.Data (length (data_of j.held elements)) (length (end_lines j elements (length area))))
-      (end.Alone (length (end_lines j elements (length area)))))
+      (ended (if_ok (end_answer j.held elements (length area)) (Some (length (data_of j.held elements))) None) (length (end_lines j elements (length area))))
   pub left :
       kept
       ≡ if_ok (end_refusal (length area) (length out))

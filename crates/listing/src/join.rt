@@ -26,11 +26,11 @@ pub struct Step {
     pub size: usize,
 }
 
-// The lines of the end: how many bytes of data and of text there are, or how many of text where there are no data.
-#[derive(Clone, Copy)]
-pub enum End {
-    Data(usize, usize),
-    Alone(usize),
+// The end of a set: how many bytes of data there are, if any, and how many its lines have.
+#[derive(Clone, Copy, PartialEq, Eq, Debug)]
+pub struct End {
+    pub data: Option<usize>,
+    pub size: usize,
 }
 
 impl Joining {
@@ -106,16 +106,15 @@ impl Joining {
         if out.len().saturating_sub(LINE_LEN) <= 2 * data.len() {
             return Err(RLNCError::NoRoom);
         }
-        match self.recover(elements, data) {
-            Ok(n) => {
-                let size = crate::data_lines(out, &data[..n], self.repeats)?;
-                Ok(End::Data(n, size))
-            }
-            Err(e) => {
-                let size = crate::end_line(out, Err(e), 0, self.repeats)?;
-                Ok(End::Alone(size))
-            }
-        }
+        let found = self.recover(elements, data);
+        let size = match found {
+            Ok(n) => crate::data_lines(out, &data[..n], self.repeats)?,
+            Err(e) => crate::end_line(out, Err(e), 0, self.repeats)?,
+        };
+        Ok(End {
+            data: found.ok(),
+            size,
+        })
     }
 
     // Recovers the data: 10 where no piece has come.

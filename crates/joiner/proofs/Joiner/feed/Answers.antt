@@ -21,8 +21,8 @@ returns-then-out-lt-TEXT_LEN c =
 pub begin-requires-clause-came_in_bounds : goal.begin-requires-clause-came_in_bounds
 begin-requires-clause-came_in_bounds c = body_came c.args.self.reader c.args.input.now (sym c.read.ensures ∙ c.in_ok-reader.was)
 
-pub close-closing-requires-clause-end_room_in_bounds : goal.close-closing-requires-clause-end_room_in_bounds
-close-closing-requires-clause-end_room_in_bounds c = room_left (goes c.begin.ensures c.in_ok-step.was) c.if-out-lt-TEXT_LEN.false c.begin.auto.out
+pub close-ending-requires-clause-end_room_in_bounds : goal.close-ending-requires-clause-end_room_in_bounds
+close-ending-requires-clause-end_room_in_bounds c = room_left (goes c.begin.ensures c.in_ok-joining.was) c.if-out-lt-TEXT_LEN.false c.begin.auto.out
 
 pub returns-in_err-reader : goal.returns-in_err-reader
 returns-in_err-reader c =
@@ -32,16 +32,16 @@ returns-in_err-reader c =
     (read_refused (field_of a.f) a.self a.input.now a.elements.now a.data.now a.out.now c.if-out-lt-TEXT_LEN.false c.if-data-lt-BLOCK_LEN.false
     (sym c.read.ensures ∙ c.in_err-reader.was))
 
-pub returns-in_err-step : goal.returns-in_err-step
-returns-in_err-step c =
+pub returns-in_err-joining : goal.returns-in_err-joining
+returns-in_err-joining c =
     let a = c.args in
-    let p = err_from_is_err_and c.from_residual-in_err-step.result c.from_residual-in_err-step.ensures.1 in
+    let p = err_from_is_err_and c.from_residual-in_err-joining.result c.from_residual-in_err-joining.ensures.1 in
     rw (p.1 ∙ ap Err p.2)
     (piece_refused (field_of a.f) a.self a.input.now a.elements.now a.data.now a.out.now c.if-out-lt-TEXT_LEN.false c.if-data-lt-BLOCK_LEN.false
-    (sym c.read.ensures ∙ c.in_ok-reader.was) (refuses c.begin.ensures c.in_err-step.was))
+    (sym c.read.ensures ∙ c.in_ok-reader.was) (refuses c.begin.ensures c.in_err-joining.was))
 
 pub returns : goal.returns
 returns c =
     let a = c.args in
     gone (field_of a.f) a.self a.input.now a.elements.now a.data.now a.out.now c.if-out-lt-TEXT_LEN.false c.if-data-lt-BLOCK_LEN.false
-    (sym c.read.ensures ∙ c.in_ok-reader.was) (goes c.begin.ensures c.in_ok-step.was) c.close-closing.ensures
+    (sym c.read.ensures ∙ c.in_ok-reader.was) (goes c.begin.ensures c.in_ok-joining.was) c.close-ending.ensures
