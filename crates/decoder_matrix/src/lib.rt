@@ -13,7 +13,8 @@ use rules::Held;
 
 mod rules;
 
-#[derive(Clone, Copy)]
+// The buffer is no part of the record: C lends it at each call, and there is no heap.
+#[derive(Clone, Copy, PartialEq, Eq, Debug)]
 pub struct DecoderMatrix {
     pub num_pieces_coded_together: usize,
     pub rows: usize,
@@ -70,7 +71,8 @@ impl DecoderMatrix {
         Ok(held.matrix)
     }
 
-    // rows ≤ k ≤ cols, and k rows fit into n bytes.
+    // rows ≤ k ≤ cols, and k rows fit into n bytes. Each caller tests it itself. Tried: one function from `self` and `elements` to
+    // `Result<Held, RLNCError>`. The proof doesn't close: where that is Err, a caller knows nothing of the buffer that it lent.
     #[tactic(auto, unfolding(crate::specs::Matrix::sizes_fit))]
     fn sizes_fit(self, n: usize) -> bool
         ensures { result ≡ sizes_fit self n }

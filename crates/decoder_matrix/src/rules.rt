@@ -10,7 +10,8 @@ use field::Field;
 use rows::Parts;
 use std::ops::Range;
 
-// A matrix, and the buffer lent with room for its k rows.
+// A matrix, and the buffer lent with room for its k rows. That a row is one of those held is a fact of an index, not of this record: five
+// functions require it of theirs.
 #[derive(Drop)]
 pub(crate) struct Held<'a> {
     pub(crate) matrix: DecoderMatrix,
@@ -113,7 +114,8 @@ impl Held<'_> {
         rows::inplace_mul_vec_by_scalar(f, &mut self.elements[a..a + cols], inverse);
     }
 
-    // Rule 3: the rows kept are moved to the front in their order, and the area behind them is cleared.
+    // Rule 3: the rows kept are moved to the front in their order, and the area behind them is cleared. `kept` is counted by hand: no `retain`
+    // works on the rows of a buffer.
     #[tactic(auto, using(crate::proofs::Sizes::room_in))]
     pub(crate) fn remove_zero_rows(&mut self)
         ensures { Emptied self.old self.new }

@@ -9,7 +9,8 @@ ghost use Rattle.field.specs.FieldOf.{field_of};
 
 use gf256::Gf256;
 
-#[derive(Clone, Copy)]
+// An enum with one case, and no trait: a value can name the field, and a stream's kind will choose it at run time (docs/DECISIONS.md).
+#[derive(Clone, Copy, PartialEq, Eq, Debug)]
 pub enum Field {
     Fips197,
 }
@@ -53,6 +54,7 @@ impl Field {
     pub fn multiples(self, q: u8) -> [u8; 8]
         ensures { result ≡ multiples_of (field_of self) q }
     {
+        // No plainer: `array::from_fn`, whose closure would change a variable and leave its index unused. `successors` makes no array.
         let mut m = [q; 8];
         for i in 1..8 {
             m[i] = self.times_x(m[i - 1]);

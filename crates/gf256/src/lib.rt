@@ -79,9 +79,7 @@ impl Gf256 {
         if b == 1 {
             return a;
         }
-        let l = log_at(a);
-        let r = log_at(b);
-        exp_at(l + r)
+        exp_at(log_at(a) + log_at(b))
     }
 
     // a times x, with no table.

@@ -1,5 +1,5 @@
 // The sum over rows of number times row, for coding and recoding. A number is the sum of its bits, so the rows are added up bit by bit:
-// what the higher bits made is multiplied by x, then the rows whose number has the bit are added. One row is ever multiplied.
+// what the higher bits made is multiplied by x, then the rows whose number has the bit are added. Only one row is ever multiplied.
 ghost use Rattle.std.specs.Prelude.{◌≡◌, true, map, ℕ, ◌+◌, ◌*◌, ◌/◌, ◌%◌, ◌^◌, ◌≤◌, ◌<◌, leb, length, get_or};
 ghost use Rattle.galois.specs.FieldLaws.{FieldLaws};
 ghost use Rattle.field.specs.FieldOf.{field_of};
@@ -33,6 +33,8 @@ fn holds_rows(n: usize, count: usize, width: usize) -> bool
     width == 0 || count <= n / width
 }
 
+// `rows`, `numbers` and `out` go together through three functions. No plainer: a struct of them, since each call takes it apart at once, and
+// only two functions require that they fit.
 fn sum_bits(f: Field, rows: &[u8], numbers: &[u8], out: &mut [u8])
     requires { length numbers.now * length out.old ≤ length rows.now }
     ensures { out.new ≡ combine (field_of f) (length out.old) numbers.now (rows_of (length out.old) (length numbers.now) rows.now) }
@@ -61,9 +63,10 @@ fn add_chosen(rows: &[u8], numbers: &[u8], bit: u32, out: &mut [u8])
 }
 
 // The starts of the rows whose number has the bit, in the front of `starts`. Each start is stored, and the next one over it where the number
-// lacks the bit.
+// lacks the bit. Tried: a branch on the bit and one row in a pass. Then `combine` misses its bar at 32 x 480, six times the Rust's speed or
+// 2.6 us: it takes 3.9 us, and 1.8 us as it stands (bench/README.md).
 fn collect<'a>(numbers: &[u8], bit: u32, width: usize, starts: &'a mut [usize]) -> &'a [usize]
-    requires { (bit < 8) × (length numbers.now ≤ length starts.old) × (length numbers.now * width ≤ 18446744073709551615) }
+    requires { (bit < 8) × (length numbers.now ≤ length starts.old) × (length numbers.now * width < 2 ^ 64) }
     ensures { Collected bit width numbers.now result.now }
 {
     let mut n = 0;
@@ -89,6 +92,7 @@ fn add_rows(rows: &[u8], starts: &[usize], out: &mut [u8])
     }
 }
 
+// By the index, as in `add_row`.
 fn add_four(rows: &[u8], starts: [usize; 4], out: &mut [u8])
     requires { (k : ℕ) → k < 4 → get_or starts k 0 + length out.old ≤ length rows.now }
     ensures { (i : ℕ) → i < length out.old → get_or out.new i 0 ≡ get_or out.old i 0 ⊕ sum_at rows.now starts i }

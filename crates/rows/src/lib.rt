@@ -21,6 +21,7 @@ pub use combining::combine;
 pub fn inplace_mul_vec_by_scalar(f: Field, vec: &mut [u8], scalar: u8)
     ensures { Scaled (field_of f) scalar vec.old vec.new }
 {
+    // Cases as in the Rust, for speed: 512 bytes times 0 or 1 take 5 to 25 ns, and 150 by `scale` or `add_multiple` (bench/README.md).
     match scalar {
         0 => clear(vec),
         1 => {}
@@ -51,6 +52,7 @@ pub fn mul_vec_by_scalar_then_add_into_vec(
     if add_into_vec.len() != mul_vec.len() {
         return Err(RLNCError::InvalidPieceLength);
     }
+    // The same cases.
     match scalar {
         0 => {}
         1 => add_row(add_into_vec, mul_vec),
@@ -60,7 +62,7 @@ pub fn mul_vec_by_scalar_then_add_into_vec(
 }
 
 // Two parts of one buffer, len bytes each.
-#[derive(Clone, Copy)]
+#[derive(Clone, Copy, PartialEq, Eq, Debug)]
 pub struct Parts {
     pub from: usize,
     pub to: usize,
@@ -125,7 +127,7 @@ fn scale(f: Field, vec: &mut [u8], q: u8)
     }
 }
 
-// The loops that read a second row go by the index. tried: zip; after it a proof knows nothing of the bytes that were written through iter_mut.
+// The loops that read a second row go by the index. Tried: `zip`. After it a proof knows nothing of the bytes that were written.
 fn add_row(dst: &mut [u8], src: &[u8])
     requires { length dst.old ≡ length src.now }
     ensures { dst.new ≡ add_row src.now dst.old }

@@ -14,5 +14,5 @@ returns c =
     let a_pos : 0 < a = omega arith in
     let b_pos : 0 < b = omega arith in
     c.exp_at.ensures
-    ∙ by_logs polynomial generator powers logs tables a b c.log_at-l.result c.log_at-r.result a_pos b_pos
-    c.log_at-l.ensures c.log_at-r.ensures
+    ∙ by_logs polynomial generator powers logs tables a b c.log_at.result c.log_at-2.result a_pos b_pos
+    c.log_at.ensures c.log_at-2.ensures
