@@ -1,6 +1,5 @@
 // Calls of the decoder, which is kept beside its matrix, and of its stored form.
 use super::{Call, Lent, say};
-use answers::RLNCError;
 use decoder::{Decoder, ReceivedPieceCount, UsefulPieceCount};
 use field::Field;
 
@@ -49,15 +48,6 @@ fn counts(rt: &HostRuntime, d: Decoder) {
     say::count(rt, d.get_received_piece_count());
     say::count(rt, d.get_useful_piece_count());
     say::count(rt, d.get_remaining_piece_count());
-    complete(rt, d.is_already_decoded());
-}
-
-fn complete(rt: &HostRuntime, completed: Result<bool, RLNCError>) {
-    match completed {
-        Ok(done) => say::number(rt, usize::from(done)),
-        Err(e) => {
-            say::number(rt, 2);
-            say::error(rt, e);
-        }
-    }
+    // In the script 1 is complete, 0 is not, and 2 is refused.
+    say::number_or(rt, b" 2", d.is_already_decoded().map(usize::from));
 }

@@ -3,7 +3,7 @@
 // has the format).
 #![tactic(auto)]
 
-ghost use Rattle.std.specs.Prelude.{◌+◌, ◌≤◌};
+ghost use Rattle.std.specs.Prelude.{◌≡◌, ◌+◌, ◌≤◌, length};
 
 use decoder::{Decoder, ReceivedPieceCount, UsefulPieceCount};
 use encoder::Encoder;
@@ -23,10 +23,11 @@ const HEAD_LEN: usize = 31;
 const BUFFER_LEN: usize = 65536;
 
 // Room for a matrix of 256 pieces of 2 bytes.
-const MATRIX_LEN: usize = 66048;
+const MATRIX_LEN: usize = 256 * (256 + 2);
 
 // What a call says: its kind, five numbers, how much of the kept buffer is lent, how much of it is written anew before, and the lengths
-// of the two slices.
+// of the two slices. The kind stays the script's byte, and is matched on: an unknown one does what the last of its module does, which an enum would
+// have to repeat.
 #[derive(Clone, Copy)]
 struct Call {
     op: u8,
@@ -68,35 +69,34 @@ struct Lent<'a> {
     b: &'a mut [u8],
 }
 
-// The number in two bytes, and in four, from `at` on, high byte first.
-fn two(head: &[u8; HEAD_LEN], at: usize) -> usize
-    requires { at + 2 ≤ HEAD_LEN }
+// The next bytes of a call.
+fn next<const N: usize>(head: &mut &[u8]) -> [u8; N]
+    requires { N ≤ length head.old.now }
+    ensures { length head.new.now + N ≡ length head.old.now }
 {
-    usize::from(u16::from_be_bytes([head[at], head[at + 1]]))
+    let (bytes, behind) = head.split_first_chunk().unwrap();
+    *head = behind;
+    *bytes
 }
 
-fn four(head: &[u8; HEAD_LEN], at: usize) -> usize
-    requires { at + 4 ≤ HEAD_LEN }
-{
-    u32::from_be_bytes([head[at], head[at + 1], head[at + 2], head[at + 3]]) as usize
-}
-
+// Numbers stand in a call high byte first.
 fn call_in(head: &[u8; HEAD_LEN]) -> Call {
+    let mut head = &head[..];
     Call {
-        op: head[0],
-        p: four(head, 1),
-        q: four(head, 5),
-        r: four(head, 9),
-        s: four(head, 13),
-        t: four(head, 17),
-        lent: four(head, 21),
-        load: two(head, 25),
-        a: two(head, 27),
-        b: two(head, 29),
+        op: u8::from_be_bytes(next(&mut head)),
+        p: u32::from_be_bytes(next(&mut head)) as usize,
+        q: u32::from_be_bytes(next(&mut head)) as usize,
+        r: u32::from_be_bytes(next(&mut head)) as usize,
+        s: u32::from_be_bytes(next(&mut head)) as usize,
+        t: u32::from_be_bytes(next(&mut head)) as usize,
+        lent: u32::from_be_bytes(next(&mut head)) as usize,
+        load: usize::from(u16::from_be_bytes(next(&mut head))),
+        a: usize::from(u16::from_be_bytes(next(&mut head))),
+        b: usize::from(u16::from_be_bytes(next(&mut head))),
     }
 }
 
-// Records with no good numbers.
+// Records with no good numbers. Written out: a `Default` of the library's types would be a record that is refused everywhere.
 fn nothing() -> Kept {
     let encoder = Encoder {
         piece_count: 0,
@@ -129,7 +129,7 @@ fn front(buf: &mut [u8], n: usize) -> &mut [u8] {
 // Those bytes, read from the script. Where it ends before, or cannot be read, the others stay.
 fn filled<'a>(rt: &HostRuntime, buf: &'a mut [u8], n: usize) -> &'a mut [u8] {
     let part = front(buf, n);
-    let _whole = rt.stdin().read_exact(part).is_ok();
+    let _ = rt.stdin().read_exact(part);
     part
 }
 
@@ -139,7 +139,8 @@ fn loaded<'a>(rt: &HostRuntime, c: Call, kept: &'a mut [u8]) -> &'a mut [u8] {
     front(kept, c.lent)
 }
 
-// One call. The high digit of its kind says whom it asks.
+// One call. The high digit of its kind says whom it asks. What the three modules do differs in all but the last lines of their `call`, so a trait of
+// the three records would be no shorter.
 fn one(rt: &HostRuntime, c: Call, k: Kept, buffers: &mut Buffers) -> Kept {
     let a = filled(rt, &mut buffers.a, c.a);
     let b = filled(rt, &mut buffers.b, c.b);
@@ -171,7 +172,7 @@ fn one(rt: &HostRuntime, c: Call, k: Kept, buffers: &mut Buffers) -> Kept {
 fn turn(rt: &HostRuntime, n: u64, k: Kept, buffers: &mut Buffers) -> Option<Kept> {
     let mut head = [0u8; HEAD_LEN];
     rt.stdin().read_exact(&mut head).ok()?;
-    let _written = print!(rt; "{n}").is_ok();
+    let _ = print!(rt; "{n}");
     let next = one(rt, call_in(&head), k, buffers);
     say::put(rt, b"\n");
     Some(next)

@@ -38,7 +38,7 @@ fn low(n: usize) -> u8 {
 }
 
 fn hex(rt: &HostRuntime, n: u8) {
-    let _written = print!(rt; "{n:02x}").is_ok();
+    let _ = print!(rt; "{n:02x}");
 }
 
 // The products of a byte and every byte, its quotients by every byte, and its inverse.

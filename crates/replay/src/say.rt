@@ -7,20 +7,16 @@ const CHUNK_LEN: usize = 2048;
 
 // To standard output: where that cannot be written to, the comparison finds it.
 pub(crate) fn put(rt: &HostRuntime, part: &[u8]) {
-    let _written = rt.stdout().write_all(part).is_ok();
+    let _ = rt.stdout().write_all(part);
 }
 
 pub(crate) fn number(rt: &HostRuntime, n: usize) {
-    let _written = print!(rt; " {n}").is_ok();
+    let _ = print!(rt; " {n}");
 }
 
 // The number of an answer, whatever it hands out.
 pub(crate) fn answer<T: Copy>(rt: &HostRuntime, a: Result<T, RLNCError>) {
     number(rt, usize::from(answers::number(a)));
-}
-
-pub(crate) fn error(rt: &HostRuntime, e: RLNCError) {
-    number(rt, usize::from(e.number()));
 }
 
 // The answer, and the record to keep: a refusal leaves the one that was there.
@@ -37,13 +33,18 @@ pub(crate) fn length(rt: &HostRuntime, made: Result<usize, RLNCError>) {
     }
 }
 
-// A count, or the number that refuses it.
+// A count, or `no` and the number that refuses it.
 pub(crate) fn count(rt: &HostRuntime, counted: Result<usize, RLNCError>) {
-    match counted {
+    number_or(rt, b" no", counted);
+}
+
+// A number, or the script's word for a refusal and the refusal's number.
+pub(crate) fn number_or(rt: &HostRuntime, refused: &[u8], found: Result<usize, RLNCError>) {
+    match found {
         Ok(n) => number(rt, n),
         Err(e) => {
-            put(rt, b" no");
-            error(rt, e);
+            put(rt, refused);
+            number(rt, usize::from(e.number()));
         }
     }
 }

@@ -19,21 +19,19 @@ const LINE_LEN: usize = 512;
 
 // The reason alone: the number that the system has for it stands behind.
 fn reason(text: &str) -> &str {
-    match text.split_once(" (os error ") {
-        Some((before, _)) => before,
-        None => text,
-    }
+    text.split_once(" (os error ")
+        .map_or(text, |(before, _)| before)
 }
 
 // A line that says what failed, and the reason: as one text, so that it is written at once.
 pub(crate) fn line(what: &str, e: io::Error) -> ArrayString<LINE_LEN> {
     let mut text = ArrayString::<REASON_LEN>::new();
-    let _fits = write!(text, "{e}").is_ok();
+    let _ = write!(text, "{e}");
     told(what, reason(text.as_str()))
 }
 
 fn told(what: &str, why: &str) -> ArrayString<LINE_LEN> {
     let mut line = ArrayString::<LINE_LEN>::new();
-    let _fits = writeln!(line, "{what}: {why}").is_ok();
+    let _ = writeln!(line, "{what}: {why}");
     line
 }

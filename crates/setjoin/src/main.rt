@@ -47,7 +47,8 @@ struct Lent {
     out: [u8; OUT_LEN],
 }
 
-// Fills the buffer, or reads to the end of the input. A read that fails says so, and then counts as the end.
+// Fills the buffer, or reads to the end of the input. A read that fails says so, and then counts as the end. What is left of the `limit` says how
+// many bytes came: where `read_exact` fails, it does not say it itself.
 fn read(rt: &HostRuntime, buf: &mut [u8]) -> usize
     ensures { result ≤ length buf.new }
 {
@@ -67,17 +68,15 @@ fn write(rt: &HostRuntime, text: &[u8]) -> Result<(), Failure> {
 // To standard error.
 fn complain(rt: &HostRuntime, text: &[u8]) {
     if let Err(e) = Print::write_all(&rt.stderr(), text) {
-        reports_unread(rt, &e);
+        if is_unread(rt, &e) {
+            tell(rt, Status::Unread);
+        }
     }
 }
 
-// Where nobody reads any more, a command that asks for the status is told so, and ends as the signal for that ends it. Whether it was told.
-fn reports_unread(rt: &HostRuntime, e: &io::Error) -> bool {
-    let unread = matches!(e.kind(), ErrorKind::BrokenPipe) && call::asks_status(rt);
-    if unread {
-        tell(rt, Status::Unread);
-    }
-    unread
+// Nobody reads any more what is written, and a command asks for the status: it is told so, and ends as the signal for that ends it.
+fn is_unread(rt: &HostRuntime, e: &io::Error) -> bool {
+    matches!(e.kind(), ErrorKind::BrokenPipe) && call::asks_status(rt)
 }
 
 // Writes the text out where the longest of a turn has no room behind it, or at once. How much of the buffer is used then.
@@ -124,7 +123,7 @@ fn turn(rt: &HostRuntime, m: Joiner, lent: &mut Lent, from: usize) -> Result<Fed
 // any input uses up. The machine has room for every turn: it refuses an input only past 2^64 bytes.
 fn run(rt: &HostRuntime, mode: Mode, lent: &mut Lent) -> Result<Status, Failure> {
     let mut m = Joiner::new();
-    // How much text waits: it stands at the front of a lent buffer, since there is no heap.
+    // How much text waits at the front of `lent.out`. A number beside a buffer, and no `ArrayString`, since `feed` writes into a slice.
     let mut used = 0;
     for _ in 0..u64::MAX {
         let from = make_room(rt, mode, &lent.out, used)?;
@@ -166,7 +165,7 @@ fn end(
     }
 }
 
-// What the words from this one on ask for is done, for its status.
+// Does what the words from this one on ask for. The status says how that ended.
 fn asked(rt: &HostRuntime, first: usize) -> Result<Status, Failure> {
     let mode = match call::read(rt, first)? {
         Call::Data => Mode::Data,
@@ -182,7 +181,7 @@ fn asked(rt: &HostRuntime, first: usize) -> Result<Status, Failure> {
     run(rt, mode, &mut lent)
 }
 
-// What failed is said to the user, but where nobody reads any more.
+// What failed is said to the user, except where nobody reads any more.
 fn say(rt: &HostRuntime, failure: Failure) {
     match failure {
         Failure::Words => complain(
@@ -190,14 +189,9 @@ fn say(rt: &HostRuntime, failure: Failure) {
             b"setjoin: unknown words; use bin/setjoin, which reads a user's\n",
         ),
         Failure::TooLong => complain(rt, b"setjoin: the input is too long\n"),
-        Failure::Output(e) => {
-            if !reports_unread(rt, &e) {
-                complain(rt, failure::line("setjoin: standard output", e).as_bytes());
-            }
-        }
-        Failure::Errors(e) => {
-            reports_unread(rt, &e);
-        }
+        Failure::Output(e) | Failure::Errors(e) if is_unread(rt, &e) => tell(rt, Status::Unread),
+        Failure::Output(e) => complain(rt, failure::line("setjoin: standard output", e).as_bytes()),
+        Failure::Errors(_) => {}
     }
 }
 
@@ -221,7 +215,7 @@ fn tell(rt: &HostRuntime, status: Status) {
         Status::Unread => b"3",
     };
     if let Ok(mut to) = OpenOptions::new().append(true).open(rt, "/dev/fd/3") {
-        let _told = to.write_all(digit).is_ok();
+        let _ = to.write_all(digit);
     }
 }
 
