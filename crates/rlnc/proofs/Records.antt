@@ -1,17 +1,12 @@
 -- A record that was made, handed out as its number and a number of it; a piece that was taken.
 -- Assumes nothing.
-use mathlib.Core.Path.{◌≡◌, refl, ap, ◌∙◌, subst}
-use mathlib.Core.Bool.{Bool, true, false}
+use mathlib.Core.Path.{◌≡◌, ap, ◌∙◌, subst}
 use mathlib.Core.List.{List}
 use Prim.Native.Nat.{ℕ}
-use lib.Dec.{eqb}
 use lib.ListN.{length}
-use Rattle.std.specs.Prelude.{Result, Ok, Err, IsOkAnd, MatchResult}
-use Rattle.answers.specs.Number.{Answer, number_of}
+use Rattle.std.specs.Prelude.{Result, Err, IsOkAnd, MatchResult}
 use Rattle.answers.specs.declared.RLNCError.{RLNCError}
 use Rattle.galois.specs.FieldLaws.{FieldLaws}
-use Rattle.linear.specs.Choice.{pick}
-use Rattle.block.specs.Refusal.{if_ok, answered}
 use Rattle.encoder.specs.declared.Encoder.{Encoder}
 use Rattle.encoder.specs.Made as MadeOfEncoder
 use Rattle.encoder.specs.Entries.{padded_refusal, NewPadded, unpadded_refusal, NewUnpadded}
@@ -20,11 +15,10 @@ use Rattle.recoder.specs.Made as MadeOfRecoder
 use Rattle.recoder.specs.Entries as EntriesOfRecoder
 use Rattle.decoder.specs.declared.Decoder.{Decoder}
 use Rattle.decoder.specs.declared.Taken.{Taken}
-use Rattle.decoder.specs.declared.Taken.TheVariants.{Useful, NotUseful}
 use Rattle.decoder.specs.Records.{rows_in, taken_by}
 use Rattle.decoder.specs.Answers.{taken_number, kept}
-use Rattle.decoder.specs.Entries.{take_refusal, rows_after, after, taking, Decoded, Recovery}
-use Rattle.decoder.specs.Calls.{number_next, record_next, buffer_next}
+use Rattle.decoder.specs.Entries.{Decoded, Recovery}
+use Rattle.decoder.proofs.Calls.{number_is, record_is, buffer_is}
 use Rattle.rlnc.specs.Given.{Given}
 use Rattle.rlnc.specs.Records.{EncoderMade, UnpaddedMade, RecoderMade, PieceTaken, DataRecovered}
 use Rattle.rlnc.proofs.Given.{part_of, given_number, given_value}
@@ -60,40 +54,11 @@ pub data_recovered : {M : ℕ} {d : Decoder} {elements out last : List ℕ} {n r
     → Given c n r n' → DataRecovered M d elements out n r n' last
 data_recovered o g = record { number = given_number _ _ o.result g; length_stored = given_value _ _ o.result g; left = o.left }
 
-module _ {𝓕 : FieldLaws} {d : Decoder} {elements full last : List ℕ} {m : Result Taken RLNCError} (o : Decoded 𝓕 d elements full m last) where
-  abbrev refusal : Answer
-  refusal = take_refusal d (length elements) (length full)
-
-  taken_answered : (a : Answer) (x : Taken) → taken_number (answered a x) ≡ if_ok a (taken_number (Ok x)) (number_of a)
-  unfolding taken_number
-  taken_answered (Ok z) x = refl
-  taken_answered (Err e) x = refl
-
-  kept_answered : (a : Answer) (x : Taken) → kept d (answered a x) ≡ if_ok a (kept d (Ok x)) d
-  unfolding kept
-  kept_answered (Ok z) x = refl
-  kept_answered (Err e) x = refl
-
-  -- useful or not, the record after the piece is the same
-  kept_taking : kept d (Ok (taking 𝓕 d elements full)) ≡ after 𝓕 d elements full
-  unfolding kept taking
-  kept_taking = go (eqb (length (rows_after 𝓕 d elements full)) (rows_in d))
-    where
-      go : (t : Bool) → kept d (Ok (pick t (NotUseful (after 𝓕 d elements full)) (Useful (after 𝓕 d elements full)))) ≡ after 𝓕 d elements full
-      go true = refl
-      go false = refl
-
-  kept_next : kept d m ≡ record_next 𝓕 d elements full
-  unfolding record_next
-  kept_next =
-      ap (kept d) o.result ∙ kept_answered refusal _ ∙ ap (λ (x : Decoder). if_ok refusal x d) kept_taking
-
-  pub piece_taken : {d' : Decoder} {r : ℕ} (e : Decoder) → d ≡ d' → r ≡ taken_number m → e ≡ kept d m
-      → PieceTaken 𝓕 d' elements full r (rows_in e) (taken_by e) last
-  unfolding number_next buffer_next
-  piece_taken {r} e same n k = subst (λ (x : Decoder). PieceTaken 𝓕 x elements full r (rows_in e) (taken_by e) last) same (record {
-    number = n ∙ ap taken_number o.result ∙ taken_answered refusal _;
-    rows_stored = ap rows_in (k ∙ kept_next);
-    taken_stored = ap taken_by (k ∙ kept_next);
-    left = o.left;
-  })
+pub piece_taken : {𝓕 : FieldLaws} {d d' : Decoder} {elements full last : List ℕ} {m : Result Taken RLNCError} {r : ℕ} → Decoded 𝓕 d elements full m last
+    → (e : Decoder) → d ≡ d' → r ≡ taken_number m → e ≡ kept d m → PieceTaken 𝓕 d' elements full r (rows_in e) (taken_by e) last
+piece_taken {𝓕} {elements = elements} {full} {last} {r = r} o e same n k = subst (λ (x : Decoder). PieceTaken 𝓕 x elements full r (rows_in e) (taken_by e) last) same (record {
+  number = n ∙ number_is o;
+  rows_stored = ap rows_in (k ∙ record_is o);
+  taken_stored = ap taken_by (k ∙ record_is o);
+  left = buffer_is o;
+})

@@ -7,9 +7,8 @@ use Rattle.linear.specs.Choice.{pick}
 use Rattle.block.specs.Refusal.{if_ok}
 use Rattle.stream.specs.declared.Geometry.{Geometry}
 use Rattle.stream.specs.declared.Record.{Record}
-use Rattle.stream.specs.declared.Record.TheVariants.{Piece, End}
 use Rattle.stream.specs.Geometries.{kind_of, pieces_of, length_of, geometry_of}
-use Rattle.stream.specs.Records.{write_refusal}
+use Rattle.stream.specs.Records.{record_kind, write_refusal}
 
 -- what has been seen so far crosses as the kind of the pieces before, 0 where there were none; 22 where no pieces have that kind
 unfoldable pub seen_before : Option Geometry → Result (Option Geometry) RLNCError
@@ -24,13 +23,9 @@ unfoldable pub read_by : (Option Geometry → Result Record RLNCError) → Resul
 read_by read (Ok s) = read s
 read_by read (Err e) = Err e
 
--- a record crosses as its kind
-abbrev pub kind_in : Record → ℕ
-kind_in (Piece g) = kind_of g
-kind_in End = 0x01
-
+-- a record crosses as the byte that opens it
 unfoldable pub kind_or : ℕ → Result Record RLNCError → ℕ
-kind_or before (Ok m) = kind_in m
+kind_or before (Ok m) = record_kind m
 kind_or before (Err e) = before
 
 pub record RecordGiven (m : Result Record RLNCError) (before r after : ℕ) : Type 0 where

@@ -1,5 +1,5 @@
 // A result, handed out as its number and, where there is one, its value. An entry that sets more than one number matches by itself: of what a
-// closure sets, nothing is known after `map`.
+// closure sets, nothing is known after `map`, and a function with `?` would state the whole contract once more.
 ghost use Rattle.rlnc.specs.Given.{Given};
 
 use answers::RLNCError;

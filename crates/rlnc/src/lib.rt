@@ -1,6 +1,7 @@
 // The entries that `rlnc_c` exports to Rust and C. Each hands its numbers and byte slices on, the field fixed to that of FIPS 197, and hands an
 // answer out as its number. A record crosses as its numbers: sizes by value, and behind a reference what the entry sets, which a refusal
-// leaves as it is. Kept for the C interface: parameters that always come together, and kinds and answers as numbers.
+// leaves as it is. Kept for the C interface: parameters that always come together, kinds and answers as numbers, whether there is a byte as a
+// bool, and each getter as an entry of its own.
 #![tactic(auto)]
 
 mod counts;
