@@ -32,6 +32,10 @@ pub passes : (t : Bool) (a b : Answer) → 0 < number_of a → pick t a b ≡ Ok
 passes true a b n e = let z : number_of a ≡ 0 = ap number_of e in absurd (omega arith)
 passes false a b n e = (refl, e)
 
+-- what `Judged::admit` lets through is not in a bad state
+pub admitted : (bad : Bool) {a : Answer} → a ≡ pick bad (Err BadState) (Ok tt) → a ≡ Ok tt → bad ≡ false
+admitted bad p o = (passes bad (Err BadState) (Ok tt) (omega arith) (sym p ∙ o)).0
+
 -- ---- the two sides of a test `!self.holds(..)`
 
 pub refuses : (bad : Bool) {t : Bool} → t ≡ not bad → not t ≡ true → bad ≡ true

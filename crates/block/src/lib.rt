@@ -6,6 +6,8 @@ ghost use Rattle.std.specs.Prelude.{◌≡◌};
 ghost use Rattle.answers.specs.declared.RLNCError.TheVariants.{InvalidDecodedDataFormat};
 ghost use Rattle.block.specs.Sizes.{over_limit, sized};
 
+pub mod judged;
+
 use answers::RLNCError;
 
 pub const BOUNDARY_MARKER: u8 = 0x81;

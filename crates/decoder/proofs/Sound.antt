@@ -1,20 +1,15 @@
 -- What the tests of a record say in numbers: the sizes and counts are within their limits, and so is the matrix.
 -- Assumes nothing.
-use mathlib.Core.Path.{◌≡◌, sym, ◌∙◌}
+use mathlib.Core.Path.{◌≡◌}
 use mathlib.Core.Bool.{true, false, not}
 use Prim.Native.Nat.{ℕ, ◌+◌, ◌*◌, ◌≤◌}
 use native.Mathlib.Nat.{mul-le-mul}
 use native.Mathlib.Omega.{arith}
 use lib.Dec.{eqb, leb, ltb}
 use borrow.Author.Tests.{not-true, not-false, eqb-false, leb-true, ltb-false, ne_eqb, le-leb, le-ltb}
-use Rattle.std.specs.Prelude.{Ok, Err}
-use Rattle.answers.specs.Number.{Answer}
-use Rattle.answers.specs.declared.RLNCError.TheVariants.{BadState}
-use Rattle.linear.specs.Choice.{pick}
 use Rattle.linear.proofs.Choice.{and_true, or_false}
 use Rattle.block.specs.Sizes.{over_limit, sized}
 use Rattle.block.proofs.Bounds.{limited}
-use Rattle.block.proofs.Chosen.{passes}
 use Rattle.decoder.specs.declared.Decoder.{Decoder}
 use Rattle.decoder.specs.Records.{k_of, l_of, f_of, rows_in, taken_by, sound, bad_state}
 
@@ -76,7 +71,3 @@ module _ (d : Decoder) where
   holds n e =
       let o = or_false (not (sound d)) (ltb n (k_of d * f_of d)) e in
       record { numbers = told (not-false (sound d) o.0); room = ltb-false _ _ o.1 }
-
-  -- what `admit` lets through is not in a bad state
-  pub admitted : (n : ℕ) {a : Answer} → a ≡ pick (bad_state d n) (Err BadState) (Ok tt) → a ≡ Ok tt → bad_state d n ≡ false
-  admitted n p o = (passes (bad_state d n) (Err BadState) (Ok tt) (omega arith) (sym p ∙ o)).0

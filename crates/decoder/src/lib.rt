@@ -2,11 +2,9 @@
 // complete, and recovers the data.
 #![tactic(auto)]
 
-ghost use Rattle.std.specs.Prelude.{◌≡◌, not, ◌+◌, ◌-◌, length, Ok, Err};
+ghost use Rattle.std.specs.Prelude.{◌≡◌, not, ◌+◌, ◌-◌, length, Ok};
 ghost use Rattle.answers.specs.Number.{number_of};
-ghost use Rattle.answers.specs.declared.RLNCError.TheVariants.{BadState};
 ghost use Rattle.field.specs.FieldOf.{field_of};
-ghost use Rattle.linear.specs.Choice.{pick};
 ghost use Rattle.block.specs.Padding.{marker};
 ghost use Rattle.block.specs.Counts.{counted};
 ghost use Rattle.decoder.specs.Records.{sound, bad_state};
@@ -16,6 +14,7 @@ ghost use Rattle.decoder.specs.Entries.{NewDecoder, take_refusal, Decoded, compl
 mod block_in;
 
 use answers::{Answer, RLNCError};
+use block::judged::Judged;
 use block_in::BlockIn;
 use decoder_matrix::DecoderMatrix;
 use field::Field;
@@ -24,14 +23,16 @@ use field::Field;
 const TAKEN_LIMIT: usize = 65535;
 
 // How many rows are held.
-#[derive(Clone, Copy)]
+#[derive(Clone, Copy, PartialEq, Eq, Debug)]
 pub struct UsefulPieceCount(pub usize);
 
 // How many pieces were taken.
-#[derive(Clone, Copy)]
+#[derive(Clone, Copy, PartialEq, Eq, Debug)]
 pub struct ReceivedPieceCount(pub usize);
 
-#[derive(Clone, Copy)]
+// Callers, C among them, may put any numbers in: each method looks at them first (`Judged`).
+// The matrix is lent at each call and no field: for C, and since there is no heap.
+#[derive(Clone, Copy, PartialEq, Eq, Debug)]
 pub struct Decoder {
     pub required_piece_count: usize,
     pub piece_byte_len: usize,
@@ -39,11 +40,33 @@ pub struct Decoder {
     pub received_piece_count: ReceivedPieceCount,
 }
 
-// What became of a piece that was taken: there is one row more or fewer, or there are as many rows as before.
-#[derive(Clone, Copy)]
+// What became of a piece that was taken: there is one row more or fewer, or there are as many rows as before, which is 8.
+// 8 is no refusal: docs/DECISIONS.
+#[derive(Clone, Copy, PartialEq, Eq, Debug)]
 pub enum Taken {
     Useful(Decoder),
     NotUseful(Decoder),
+}
+
+impl Judged for Decoder {
+    ghost sound = { sound };
+
+    ghost bad_state = { bad_state };
+
+    #[tactic(auto, unfolding(crate::specs::Records::sound))]
+    fn is_sound(self) -> bool {
+        let k = self.required_piece_count;
+        let rows = self.useful_piece_count.0;
+        let taken = self.received_piece_count.0;
+        block::sizes_fit(k, self.piece_byte_len)
+            && rows <= k
+            && rows <= taken
+            && taken <= TAKEN_LIMIT
+    }
+
+    fn fits(self, n: usize) -> bool {
+        self.holds(n)
+    }
 }
 
 impl Decoder {
@@ -78,49 +101,13 @@ impl Decoder {
         })
     }
 
-    // The record's numbers are good.
-    #[tactic(auto, unfolding(crate::specs::Records::sound))]
-    fn is_sound(self) -> bool
-        ensures { result ≡ sound self }
-    {
-        let k = self.required_piece_count;
-        let rows = self.useful_piece_count.0;
-        let taken = self.received_piece_count.0;
-        block::sizes_fit(k, self.piece_byte_len)
-            && rows <= k
-            && rows <= taken
-            && taken <= TAKEN_LIMIT
-    }
-
-    // They are, and k rows fit into n bytes.
+    // The record's numbers are good, and k rows fit into n bytes.
     #[tactic(auto, using(crate::proofs::Sound::told, crate::proofs::Sound::matrix_small), unfolding(crate::specs::Records::bad_state))]
     pub fn holds(self, n: usize) -> bool
         ensures { result ≡ not (bad_state self n) }
     {
         let k = self.required_piece_count;
         self.is_sound() && k * (k + self.piece_byte_len) <= n
-    }
-
-    // Refused where the record's numbers are bad.
-    fn checked(self) -> Answer
-        ensures { result ≡ pick (sound self) (Ok tt) (Err BadState) }
-    {
-        if self.is_sound() {
-            Ok(())
-        } else {
-            Err(RLNCError::BadState)
-        }
-    }
-
-    // Refused where they are, or where the lent matrix is shorter than they say.
-    fn admit(self, elements: &[u8]) -> Answer
-        ensures { result ≡ pick (bad_state self (length elements.now)) (Err BadState) (Ok tt) }
-    {
-        if self.holds(elements.len()) {
-            Ok(())
-        } else {
-            Err(RLNCError::BadState)
-        }
     }
 
     #[tactic(auto, unfolding(block::specs::Counts::counted))]
@@ -261,9 +248,7 @@ impl Decoder {
             len: self.piece_byte_len,
             elements,
         };
-        let Ok(n) = block.data_len() else {
-            return Err(RLNCError::InvalidDecodedDataFormat);
-        };
+        let n = block.data_len()?;
         block.copy_to(&mut data[..n]);
         Ok(n)
     }

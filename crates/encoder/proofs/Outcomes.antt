@@ -1,18 +1,28 @@
 -- Each entry's outcome where its order of refusals answers Ok: it makes what the definition says.
 -- Assumes nothing.
-use mathlib.Core.Path.{◌≡◌, sym, ap}
+use mathlib.Core.Path.{◌≡◌, refl, sym, ap}
+use mathlib.Core.Bool.{Bool, true, false}
 use mathlib.Core.List.{List, ◌++◌}
 use Prim.Native.Nat.{ℕ, ◌*◌}
 use lib.ListN.{length, drop}
-use Rattle.std.specs.Prelude.{Ok}
+use Rattle.std.specs.Prelude.{Ok, Err}
 use Rattle.answers.specs.Number.{Answer}
+use Rattle.answers.specs.declared.RLNCError.TheVariants.{SizeOverLimit}
 use Rattle.galois.specs.FieldLaws.{FieldLaws}
+use Rattle.linear.specs.Choice.{pick}
 use Rattle.linear.specs.Buffer.{rows_of}
 use Rattle.linear.specs.Pieces.{combine, encode}
 use Rattle.block.specs.Padding.{piece_length, padded}
 use Rattle.encoder.specs.declared.Encoder.{Encoder}
 use Rattle.encoder.specs.Made.{made}
 use Rattle.encoder.specs.Entries.{padded_refusal, NewPadded, code_refusal, Coded, code_whole_refusal, CodedWhole}
+
+-- an encoder that was made is of these sizes, within the limits
+pub made_of : {k L : ℕ} {e : Encoder} (over : Bool) → Ok e ≡ made (pick over (Err SizeOverLimit) (Ok tt)) k L
+    → (over ≡ false) × (e ≡ record { piece_count = k; piece_byte_len = L })
+unfolding made
+made_of true h = (cc, cc)
+made_of false h = (refl, cc)
 
 module _ {M : ℕ} {bytes block : List ℕ} {k : ℕ} where
   pub padded_made : {L : ℕ} {last : List ℕ} → padded_refusal (length bytes) k (length block) ≡ Ok tt → piece_length (length bytes) k ≡ L

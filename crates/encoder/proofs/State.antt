@@ -1,17 +1,11 @@
 -- What the encoder's own tests tell: sizes within the limits, and a block that is as long as they say.
 -- Assumes nothing.
-use mathlib.Core.Path.{◌≡◌, sym, ◌∙◌}
+use mathlib.Core.Path.{◌≡◌}
 use mathlib.Core.Bool.{false, not}
 use Prim.Native.Nat.{ℕ, ◌*◌, ◌≤◌}
-use native.Mathlib.Omega.{arith}
 use borrow.Author.Tests.{ltb-false, not-false}
-use Rattle.std.specs.Prelude.{Ok, Err}
-use Rattle.answers.specs.Number.{Answer}
-use Rattle.answers.specs.declared.RLNCError.TheVariants.{BadState}
-use Rattle.linear.specs.Choice.{pick}
 use Rattle.linear.proofs.Choice.{or_false}
 use Rattle.block.specs.Sizes.{sized}
-use Rattle.block.proofs.Chosen.{passes}
 use Rattle.block.proofs.Bounds.{Within, within}
 use Rattle.encoder.specs.declared.Encoder.{Encoder}
 use Rattle.encoder.specs.Entries.{bad_state}
@@ -25,7 +19,3 @@ unfolding bad_state
 held e room h =
     let t = or_false (not (sized e.piece_count e.piece_byte_len)) _ h in
     record { sizes = within e.piece_count e.piece_byte_len (not-false _ t.0); long = ltb-false _ _ t.1 }
-
--- what `admit` lets through is not in a bad state
-pub admitted : (e : Encoder) (room : ℕ) {a : Answer} → a ≡ pick (bad_state e room) (Err BadState) (Ok tt) → a ≡ Ok tt → bad_state e room ≡ false
-admitted e room p o = (passes (bad_state e room) (Err BadState) (Ok tt) (omega arith) (sym p ∙ o)).0

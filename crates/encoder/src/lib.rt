@@ -3,23 +3,42 @@
 #![tactic(auto)]
 
 ghost use Rattle.std.specs.Prelude.{◌≡◌, ◌+◌, ◌<◌, length, Ok, Err};
-ghost use Rattle.answers.specs.declared.RLNCError.TheVariants.{BadState};
+ghost use Rattle.answers.specs.declared.RLNCError.TheVariants.{SizeOverLimit};
 ghost use Rattle.linear.specs.Choice.{pick};
 ghost use Rattle.field.specs.FieldOf.{field_of};
 ghost use Rattle.block.specs.Padding.{marker, filled};
-ghost use Rattle.block.specs.Sizes.{sized};
+ghost use Rattle.block.specs.Sizes.{over_limit, sized};
 ghost use Rattle.block.specs.Counts.{counted};
+ghost use Rattle.encoder.specs.Made.{made};
 ghost use Rattle.encoder.specs.Entries.{NewPadded, NewUnpadded, bad_state, Coded, CodedWhole};
 
 use answers::{Answer, RLNCError};
 use block::BOUNDARY_MARKER;
+use block::judged::Judged;
 use field::Field;
 
-// Callers, C among them, may put any numbers in: each method looks at them first.
-#[derive(Clone, Copy)]
+// Callers, C among them, may put any numbers in: each method looks at them first (`Judged`).
+// The block is lent at each call and no field: for C, and since there is no heap.
+#[derive(Clone, Copy, PartialEq, Eq, Debug)]
 pub struct Encoder {
     pub piece_count: usize,
     pub piece_byte_len: usize,
+}
+
+impl Judged for Encoder {
+    ghost sound = { λ e. sized e.piece_count e.piece_byte_len };
+
+    ghost bad_state = { bad_state };
+
+    fn is_sound(self) -> bool {
+        block::sizes_fit(self.piece_count, self.piece_byte_len)
+    }
+
+    // The block is lent.
+    #[tactic(auto, using(block::proofs::Bounds::within, block::proofs::Bounds::block_within), unfolding(crate::specs::Entries::bad_state))]
+    fn fits(self, n: usize) -> bool {
+        self.is_sound() && self.piece_count * self.piece_byte_len <= n
+    }
 }
 
 // The data, the marker, then zeros to the end of the block.
@@ -34,13 +53,27 @@ fn pad(data: &[u8], block: &mut [u8])
 }
 
 impl Encoder {
+    // Refused where the sizes are over their limits.
+    #[tactic(auto, unfolding(crate::specs::Made::made))]
+    fn of(piece_count: usize, piece_byte_len: usize) -> Result<Encoder, RLNCError>
+        ensures { result ≡ made (pick (over_limit piece_count piece_byte_len) (Err SizeOverLimit) (Ok tt)) piece_count piece_byte_len }
+    {
+        if block::over_limit(piece_count, piece_byte_len) {
+            return Err(RLNCError::SizeOverLimit);
+        }
+        Ok(Encoder {
+            piece_count,
+            piece_byte_len,
+        })
+    }
+
     // Pads the data into the lent block.
     #[tactic(auto, using(block::proofs::Filling::round_up), unfolding(crate::specs::Entries::padded_refusal, crate::specs::Made::made))]
     pub fn new(data: &[u8], block: &mut [u8], piece_count: usize) -> Result<Encoder, RLNCError>
         ensures { NewPadded marker «data».now block.old piece_count result block.new }
     {
         let n = data.len();
-        if n == 0 {
+        if data.is_empty() {
             return Err(RLNCError::DataLengthZero);
         }
         if piece_count == 0 {
@@ -48,18 +81,13 @@ impl Encoder {
         }
         // (n + 1) / piece_count rounded up
         let piece_byte_len = n / piece_count + 1;
-        if block::over_limit(piece_count, piece_byte_len) {
-            return Err(RLNCError::SizeOverLimit);
-        }
+        let encoder = Encoder::of(piece_count, piece_byte_len)?;
         let size = piece_count * piece_byte_len;
         if block.len() < size {
             return Err(RLNCError::NoRoom);
         }
         pad(data, &mut block[..size]);
-        Ok(Encoder {
-            piece_count,
-            piece_byte_len,
-        })
+        Ok(encoder)
     }
 
     // The data is the block already.
@@ -68,7 +96,7 @@ impl Encoder {
         ensures { NewUnpadded (length «data».now) piece_count result }
     {
         let n = data.len();
-        if n == 0 {
+        if data.is_empty() {
             return Err(RLNCError::DataLengthZero);
         }
         if piece_count == 0 {
@@ -77,25 +105,7 @@ impl Encoder {
         if n % piece_count != 0 {
             return Err(RLNCError::DataLengthMismatch);
         }
-        let piece_byte_len = n / piece_count;
-        if block::over_limit(piece_count, piece_byte_len) {
-            return Err(RLNCError::SizeOverLimit);
-        }
-        Ok(Encoder {
-            piece_count,
-            piece_byte_len,
-        })
-    }
-
-    // Refused where the record's numbers are bad.
-    fn checked(self) -> Answer
-        ensures { result ≡ pick (sized self.piece_count self.piece_byte_len) (Ok tt) (Err BadState) }
-    {
-        if block::sizes_fit(self.piece_count, self.piece_byte_len) {
-            Ok(())
-        } else {
-            Err(RLNCError::BadState)
-        }
+        Encoder::of(piece_count, n / piece_count)
     }
 
     #[tactic(auto, unfolding(block::specs::Counts::counted))]
@@ -122,18 +132,6 @@ impl Encoder {
         Ok(self.piece_count + self.piece_byte_len)
     }
 
-    // Refused where the record's numbers are bad, or the lent block is shorter than they say.
-    #[tactic(auto, using(block::proofs::Bounds::within, block::proofs::Bounds::block_within), unfolding(crate::specs::Entries::bad_state))]
-    fn admit(self, block: &[u8]) -> Answer
-        ensures { result ≡ pick (bad_state self (length block.now)) (Err BadState) (Ok tt) }
-    {
-        self.checked()?;
-        if block.len() < self.piece_count * self.piece_byte_len {
-            return Err(RLNCError::BadState);
-        }
-        Ok(())
-    }
-
     // The payload of the piece that the vector codes.
     #[tactic(auto, unfolding(crate::specs::Entries::code_refusal))]
     pub fn code_with_coding_vector(
@@ -155,7 +153,8 @@ impl Encoder {
         rows::combine(f, block, coding_vector, coded_data)
     }
 
-    // The whole piece: the vector, then the payload that it codes. The lengths are refused in another order than above.
+    // The whole piece: the vector, then the payload that it codes. Its own tests: `code_whole_refusal` has the lengths in another order
+    // than `code_refusal`.
     #[tactic(auto, unfolding(crate::specs::Entries::code_whole_refusal))]
     pub fn code_with_buf(
         self,

@@ -1,19 +1,14 @@
 -- What the recoder's own tests tell: numbers within the limits, a piece longer than its coefficients, and pieces that are as many bytes as they say.
 -- Assumes nothing.
-use mathlib.Core.Path.{◌≡◌, sym, ◌∙◌}
+use mathlib.Core.Path.{◌≡◌}
 use mathlib.Core.Bool.{true, false, not}
 use Prim.Native.Nat.{ℕ, ◌-◌, ◌*◌, ◌≤◌, ◌<◌}
 use native.Mathlib.Nat.{mul-le-mul}
 use native.Mathlib.Omega.{arith}
 use lib.Dec.{eqb, leb, ltb}
 use borrow.Author.Tests.{ltb-false, leb-false, eqb-false, not-true, not-false}
-use Rattle.std.specs.Prelude.{Ok, Err}
-use Rattle.answers.specs.Number.{Answer}
-use Rattle.answers.specs.declared.RLNCError.TheVariants.{BadState}
-use Rattle.linear.specs.Choice.{pick}
 use Rattle.linear.proofs.Choice.{and_true, or_false}
 use Rattle.block.proofs.Bounds.{Within, within}
-use Rattle.block.proofs.Chosen.{passes}
 use Rattle.recoder.specs.declared.Recoder.{Recoder}
 use Rattle.recoder.specs.Entries.{sound, bad_state}
 
@@ -52,7 +47,3 @@ unfolding bad_state
 held d room h =
     let t = or_false (not (sound d)) _ h in
     record { within_limits = numbers d (not-false _ t.0); long = ltb-false _ _ t.1 }
-
--- what `admit` lets through is not in a bad state
-pub admitted : (d : Recoder) (room : ℕ) {a : Answer} → a ≡ pick (bad_state d room) (Err BadState) (Ok tt) → a ≡ Ok tt → bad_state d room ≡ false
-admitted d room p o = (passes (bad_state d room) (Err BadState) (Ok tt) (omega arith) (sym p ∙ o)).0

@@ -2,22 +2,44 @@
 // numbers, coefficients included. Bytes after the last whole piece are ignored.
 #![tactic(auto)]
 
-ghost use Rattle.std.specs.Prelude.{◌≡◌, ◌-◌, length, Ok, Err};
-ghost use Rattle.answers.specs.declared.RLNCError.TheVariants.{BadState};
-ghost use Rattle.linear.specs.Choice.{pick};
+ghost use Rattle.std.specs.Prelude.{◌≡◌, ◌-◌, length};
 ghost use Rattle.field.specs.FieldOf.{field_of};
 ghost use Rattle.block.specs.Counts.{counted};
 ghost use Rattle.recoder.specs.Entries.{NewRecoder, sound, bad_state, Recoded};
 
 use answers::{Answer, RLNCError};
+use block::judged::Judged;
 use field::Field;
 
-// Callers, C among them, may put any numbers in: each method looks at them first.
-#[derive(Clone, Copy)]
+// Callers, C among them, may put any numbers in: each method looks at them first (`Judged`).
+// The pieces are lent at each call and no field: for C, and since there is no heap.
+#[derive(Clone, Copy, PartialEq, Eq, Debug)]
 pub struct Recoder {
     pub num_pieces_received: usize,
     pub full_coded_piece_byte_len: usize,
     pub num_pieces_coded_together: usize,
+}
+
+impl Judged for Recoder {
+    ghost sound = { sound };
+
+    ghost bad_state = { bad_state };
+
+    #[tactic(auto, unfolding(crate::specs::Entries::sound))]
+    fn is_sound(self) -> bool {
+        let k = self.num_pieces_coded_together;
+        let width = self.full_coded_piece_byte_len;
+        k < width
+            && self.num_pieces_received != 0
+            && self.num_pieces_received <= block::MAX_PIECE_COUNT
+            && block::sizes_fit(k, width - k)
+    }
+
+    // The whole pieces are lent.
+    #[tactic(auto, using(crate::proofs::State::numbers, crate::proofs::State::pieces_within), unfolding(crate::specs::Entries::bad_state))]
+    fn fits(self, n: usize) -> bool {
+        self.is_sound() && self.num_pieces_received * self.full_coded_piece_byte_len <= n
+    }
 }
 
 impl Recoder {
@@ -31,7 +53,7 @@ impl Recoder {
         ensures { NewRecoder (length «data».now) full_coded_piece_byte_len num_pieces_coded_together result }
     {
         let n = data.len();
-        if n == 0 {
+        if data.is_empty() {
             return Err(RLNCError::NotEnoughPiecesToRecode);
         }
         if full_coded_piece_byte_len == 0 {
@@ -48,7 +70,7 @@ impl Recoder {
             return Err(RLNCError::NotEnoughPiecesToRecode);
         }
         let payload = full_coded_piece_byte_len - num_pieces_coded_together;
-        if 256 < num_pieces_received || block::over_limit(num_pieces_coded_together, payload) {
+        if block::MAX_PIECE_COUNT < num_pieces_received || block::over_limit(num_pieces_coded_together, payload) {
             return Err(RLNCError::SizeOverLimit);
         }
         Ok(Recoder {
@@ -56,30 +78,6 @@ impl Recoder {
             full_coded_piece_byte_len,
             num_pieces_coded_together,
         })
-    }
-
-    // The record's numbers are good.
-    #[tactic(auto, unfolding(crate::specs::Entries::sound))]
-    fn is_sound(self) -> bool
-        ensures { result ≡ sound self }
-    {
-        let k = self.num_pieces_coded_together;
-        let width = self.full_coded_piece_byte_len;
-        k < width
-            && self.num_pieces_received != 0
-            && self.num_pieces_received <= 256
-            && block::sizes_fit(k, width - k)
-    }
-
-    // Refused where the record's numbers are bad.
-    fn checked(self) -> Answer
-        ensures { result ≡ pick (sound self) (Ok tt) (Err BadState) }
-    {
-        if self.is_sound() {
-            Ok(())
-        } else {
-            Err(RLNCError::BadState)
-        }
     }
 
     #[tactic(auto, unfolding(block::specs::Counts::counted))]
@@ -112,18 +110,6 @@ impl Recoder {
     {
         self.checked()?;
         Ok(self.full_coded_piece_byte_len)
-    }
-
-    // Refused where the record's numbers are bad, or the lent pieces are fewer bytes than they say.
-    #[tactic(auto, using(crate::proofs::State::numbers, crate::proofs::State::pieces_within), unfolding(crate::specs::Entries::bad_state))]
-    fn admit(self, pieces: &[u8]) -> Answer
-        ensures { result ≡ pick (bad_state self (length pieces.now)) (Err BadState) (Ok tt) }
-    {
-        self.checked()?;
-        if pieces.len() < self.num_pieces_received * self.full_coded_piece_byte_len {
-            return Err(RLNCError::BadState);
-        }
-        Ok(())
     }
 
     // The whole pieces, each times its number, added up.

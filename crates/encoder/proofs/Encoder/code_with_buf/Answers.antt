@@ -3,18 +3,19 @@
 use Rattle.std.proofs.Common.{◌≡◌, false, ℕ, ◌+◌, ◌*◌, ◌≤◌, List, ◌++◌, length, drop, arith, sym, ap, ap₂, subst, ◌∙◌, eq-eqb}
 use lib.Seq.{take-length}
 use Rattle.field.specs.FieldOf.{field_of}
+use Rattle.block.proofs.Chosen.{admitted}
 use Rattle.linear.specs.Buffer.{rows_of}
 use Rattle.linear.specs.Pieces.{combine, encode}
 use Rattle.rows.proofs.Combined.{combined}
 use Rattle.encoder.specs.Entries.{bad_state, code_whole_refusal}
-use Rattle.encoder.proofs.State.{held, admitted}
+use Rattle.encoder.proofs.State.{held}
 use Rattle.encoder.proofs.Whole.{payload, whole}
 use Rattle.encoder.proofs.Outcomes.{code_whole_made}
 use Rattle.encoder.proofs.Encoder.code_with_buf.Goals as goal
 
 pub overflow_add-k : goal.overflow_add-k
 overflow_add-k c =
-    omega (arith, (held c.args.self (length c.args.block.now) (admitted c.args.self (length c.args.block.now) c.admit.ensures c.in_ok-admit.was)).sizes)
+    omega (arith, (held c.args.self (length c.args.block.now) (admitted _ c.admit.ensures c.in_ok-admit.was)).sizes)
 
 pub returns : goal.returns
 unfolding code_whole_refusal encode
@@ -27,7 +28,7 @@ returns c =
     let copied =
     ap₂ (λ (l : List ℕ) (n : ℕ). l ++ drop n a.full_coded_piece.now) (c.copy_from_slice.ensures.after ∙ sym (take-length a.coding_vector.now)) (sym lv) in
     let lo = payload a.coding_vector.now a.full_coded_piece.now k L lv lf copied in
-    let good : bad_state a.self (length a.block.now) ≡ false = admitted a.self (length a.block.now) c.admit.ensures c.in_ok-admit.was in
+    let good : bad_state a.self (length a.block.now) ≡ false = admitted _ c.admit.ensures c.in_ok-admit.was in
     let made =
     combined c.combine.ensures
     (subst (λ (n : ℕ). n ≤ length a.block.now) (λ i. sym lv i * sym lo i) (held a.self (length a.block.now) good).long) in
