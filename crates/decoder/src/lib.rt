@@ -183,20 +183,7 @@ impl Decoder {
         Ok(self.take_piece(f, elements, full_coded_piece))
     }
 
-    // What the caller of `decode` goes on with: the record, which stays as it is where the piece was refused, and the answer.
-    #[tactic(auto, unfolding(crate::specs::Answers::kept, crate::specs::Answers::taken_number))]
-    pub fn after_piece(self, taken: Result<Taken, RLNCError>) -> (Decoder, Answer)
-        ensures record { result.0 ≡ kept self taken }
-        ensures number { number_of result.1 ≡ taken_number taken }
-    {
-        match taken {
-            Ok(Taken::Useful(next)) => (next, Ok(())),
-            Ok(Taken::NotUseful(next)) => (next, Err(RLNCError::PieceNotUseful)),
-            Err(e) => (self, Err(e)),
-        }
-    }
-
-    // The same where nothing refuses it; then neither do the rules.
+    // A piece that `decode` does not refuse; then neither do the rules.
     #[tactic(auto, using(crate::proofs::Accepted::accepted))]
     fn take_piece(self, f: Field, elements: &mut [u8], full_coded_piece: &[u8]) -> Taken
         requires { take_refusal self (length elements.old) (length full_coded_piece.now) ≡ Ok tt }
@@ -219,6 +206,20 @@ impl Decoder {
             Taken::NotUseful(after)
         } else {
             Taken::Useful(after)
+        }
+    }
+
+    // What the caller of `decode` goes on with: the record, which stays as it is where the piece was refused, and the paper's answer, which
+    // gives 8 as an `Err`, as the Rust does.
+    #[tactic(auto, unfolding(crate::specs::Answers::kept, crate::specs::Answers::taken_number))]
+    pub fn after_piece(self, taken: Result<Taken, RLNCError>) -> (Decoder, Answer)
+        ensures record { result.0 ≡ kept self taken }
+        ensures number { number_of result.1 ≡ taken_number taken }
+    {
+        match taken {
+            Ok(Taken::Useful(next)) => (next, Ok(())),
+            Ok(Taken::NotUseful(next)) => (next, Err(RLNCError::PieceNotUseful)),
+            Err(e) => (self, Err(e)),
         }
     }
 

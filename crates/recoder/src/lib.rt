@@ -70,7 +70,9 @@ impl Recoder {
             return Err(RLNCError::NotEnoughPiecesToRecode);
         }
         let payload = full_coded_piece_byte_len - num_pieces_coded_together;
-        if block::MAX_PIECE_COUNT < num_pieces_received || block::over_limit(num_pieces_coded_together, payload) {
+        if block::MAX_PIECE_COUNT < num_pieces_received
+            || block::over_limit(num_pieces_coded_together, payload)
+        {
             return Err(RLNCError::SizeOverLimit);
         }
         Ok(Recoder {
