@@ -6,13 +6,15 @@ use Prim.Native.Nat.{ℕ, zero, suc, ◌+◌, ◌≤◌, ◌<◌}
 use native.Mathlib.Nat.{not-suc-le-zero}
 use native.Mathlib.Omega.{arith}
 use lib.ListN.{length, get_or, take, drop, replicate}
+use Rattle.std.specs.Prelude.{Result, Ok, Err}
+use Rattle.answers.specs.declared.RLNCError.{RLNCError}
 use Rattle.galois.specs.FieldLaws.{FieldLaws}
+use Rattle.stream.specs.declared.Record.{Record}
+use Rattle.stream.specs.declared.Record.TheVariants as record·
 use Rattle.stream.specs.Streams.{largest, Stream, piece, end, stop, stream_of}
 use Rattle.reader.specs.declared.Place.{Place}
 use Rattle.reader.specs.declared.Came.{Came}
 use Rattle.reader.specs.declared.Came.TheVariants as came·
-use Rattle.reader.specs.declared.Then.{Then}
-use Rattle.reader.specs.declared.Then.TheVariants as then·
 use Rattle.reader.specs.Reading.{wanted}
 use Rattle.reader.specs.Pump.{Program, says_from, front, kept, declines, back, pumped_from}
 use Rattle.reader.proofs.Reading.{Opened, body, ended, stopped, opens}
@@ -36,7 +38,7 @@ module _ (𝓕 : FieldLaws) where
         line = λ s g full. [];
         after = (joins 𝓕).after;
         refusal = (joins 𝓕).refusal;
-        ending = λ s. record { ending = ending_by s then·.End; found = found_by s then·.End } ∷ [];
+        ending = λ s. record { ending = ending_by s (Ok record·.End); found = found_by s (Ok record·.End) } ∷ [];
         stopping = λ a at. record { ending = Stopped; found = [] } ∷ [];
       }
 
@@ -76,7 +78,7 @@ module _ (𝓕 : FieldLaws) where
     pub in_block : block ≡ over data_found area
     pub said : record { ending = last.ending; found = data_found } ∷ [] ≡ says
 
-  module _ (m : Joiner) (elements area left out : List ℕ) {next : Joiner} {a b : ℕ} {matrix area' put : List ℕ} {came : Came} {then : Then}
+  module _ (m : Joiner) (elements area left out : List ℕ) {next : Joiner} {a b : ℕ} {matrix area' put : List ℕ} {came : Came} {then : Result Record RLNCError}
       (some : wanted m.reader.place ≡ 0 → ⊥)
       (p : Passed 𝓕 m (take (wanted m.reader.place) left) elements area out next a b matrix area' put came then) (most : ℕ) where
     abbrev S : State
@@ -95,7 +97,7 @@ module _ (𝓕 : FieldLaws) where
         ∙ (λ i. (silent s came bytes i ++ back closes (same i) then next.reader.at) ++ pumped_from closes most next.reader (same i) (drop (wanted m.reader.place) left))
 
     -- where the machine wants nothing, this turn was the last
-    last_turn : {n : ℕ} {last : Joiner} {rest text block : List ℕ} {what : Then} → then ≡ what → wanted next.reader.place ≡ 0
+    last_turn : {n : ℕ} {last : Joiner} {rest text block : List ℕ} {what : Result Record RLNCError} → then ≡ what → wanted next.reader.place ≡ 0
         → Run 𝓕 n next matrix area' rest text last block
         → back closes S what next.reader.at ≡ record { ending = ending_by S what; found = found_by S what } ∷ []
         → Closes last block area (pumped_from closes (suc most) m.reader (state m.joining elements) left)
@@ -103,7 +105,7 @@ module _ (𝓕 : FieldLaws) where
         let (l, k) = rests run e in
         record {
           data_found = found_by S what;
-          in_block = k ∙ p.finds ∙ ap (λ (w : Then). over (found_by S w) area) q;
+          in_block = k ∙ p.finds ∙ ap (λ (w : Result Record RLNCError). over (found_by S w) area) q;
           said =
               (λ i. record { ending = (ap (λ (x : Joiner). x.ending) l ∙ p.ends ∙ ap (ending_by S) q) i; found = found_by S what } ∷ [])
               ∙ sym told
@@ -114,13 +116,13 @@ module _ (𝓕 : FieldLaws) where
 
     goes_on : {n : ℕ} {last : Joiner} {rest text block : List ℕ} → Run 𝓕 n next matrix area' rest text last block
         → ((wanted next.reader.place ≡ 0 → ⊥) → Closes last block area' later) → (place : Place) → next.reader.place ≡ place
-        → (what : Then) → then ≡ what → Opened place what → Closes last block area (pumped_from closes (suc most) m.reader (state m.joining elements) left)
+        → (what : Result Record RLNCError) → then ≡ what → Opened place what → Closes last block area (pumped_from closes (suc most) m.reader (state m.joining elements) left)
     unfolding wanted back ending_by found_by
     goes_on run rest place e what q body =
         let c = rest (λ z. omega (arith, sym (ap wanted e) ∙ z)) in
         record {
           data_found = c.data_found;
-          in_block = c.in_block ∙ ap (over c.data_found) (p.finds ∙ ap (λ (w : Then). over (found_by S w) area) q);
+          in_block = c.in_block ∙ ap (over c.data_found) (p.finds ∙ ap (λ (w : Result Record RLNCError). over (found_by S w) area) q);
           said = c.said ∙ (λ i. back closes S (sym q i) next.reader.at ++ later) ∙ sym one_turn;
         }
     goes_on run rest place e what q ended = last_turn q (ap wanted e) run refl

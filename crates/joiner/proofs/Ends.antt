@@ -10,8 +10,9 @@ use Rattle.std.specs.Prelude.{Option, Some, None, MatchOption, Result, Ok, Err, 
 use Rattle.answers.specs.Number.{Answer, code_of}
 use Rattle.answers.specs.declared.RLNCError.{RLNCError}
 use Rattle.block.specs.Refusal.{if_ok}
-use Rattle.reader.specs.declared.Then.{Then}
-use Rattle.reader.specs.declared.Then.TheVariants as then·
+use Rattle.stream.specs.declared.Geometry.{Geometry}
+use Rattle.stream.specs.declared.Record.{Record}
+use Rattle.stream.specs.declared.Record.TheVariants as record·
 use Rattle.reader.specs.Pump.{back}
 use Rattle.listing.specs.declared.join.Joining.{Joining}
 use Rattle.listing.specs.declared.join.End.{End}
@@ -91,7 +92,7 @@ module _ (j : Joining) (elements area : List ℕ) {out part last : List ℕ} {r 
   ends_by (Err b) h = h
 
   pub finish_closes : {x : End} → r ≡ Ok x → length part ≡ length (take block_room area) → (c : Closing) → MatchOption x.«data» (c.ending ≡ Open) (λ n. c.ending ≡ Rebuilt n) → c.size ≡ x.size
-      → Closed (state j elements) then·.End 0 area out c (part ++ drop block_room area) last
+      → Closed (state j elements) (Ok record·.End) 0 area out c (part ++ drop block_room area) last
   unfolding ending_by found_by back answer
   finish_closes {x} is e c p q =
       let same : x ≡ ended (found answer) (length (end_lines j elements block_room)) =
@@ -104,22 +105,22 @@ module _ (j : Joining) (elements area : List ℕ) {out part last : List ℕ} {r 
 
 -- ---- what the record is
 
-module _ (s : State) (at : ℕ) (area : List ℕ) {then : Then} {out : List ℕ} where
-  pub closes_body : then ≡ then·.Body → Closed s then at area out (record { ending = NotYet; size = 0 }) area out
+module _ (s : State) (at : ℕ) (area : List ℕ) {then : Result Record RLNCError} {out : List ℕ} where
+  pub closes_body : {g : Geometry} → then ≡ Ok (record·.Piece g) → Closed s then at area out (record { ending = NotYet; size = 0 }) area out
   unfolding ending_by found_by back
   closes_body e =
-      subst (λ (t : Then). Closed s t at area out (record { ending = NotYet; size = 0 }) area out) (sym e)
+      subst (λ (t : Result Record RLNCError). Closed s t at area out (record { ending = NotYet; size = 0 }) area out) (sym e)
       (record { ends = refl; says = λ 𝓕. record { counts = refl; puts = refl }; block = refl })
 
   -- the end says nothing of its offset
-  pub closes_end : {r : Closing} {area' last : List ℕ} → then ≡ then·.End → Closed s then·.End 0 area out r area' last → Closed s then at area out r area' last
+  pub closes_end : {r : Closing} {area' last : List ℕ} → then ≡ (Ok record·.End) → Closed s (Ok record·.End) 0 area out r area' last → Closed s then at area out r area' last
   unfolding back
   closes_end {r} {area'} {last} e c =
-      subst (λ (t : Then). Closed s t at area out r area' last) (sym e) (record { ends = c.ends; says = c.says; block = c.block })
+      subst (λ (t : Result Record RLNCError). Closed s t at area out r area' last) (sym e) (record { ends = c.ends; says = c.says; block = c.block })
 
-  pub closes_stop : (b : RLNCError) {n : ℕ} {last : List ℕ} → then ≡ then·.Stop b → Front (stop_line (code_of b) at) out n last
+  pub closes_stop : (b : RLNCError) {n : ℕ} {last : List ℕ} → then ≡ Err b → Front (stop_line (code_of b) at) out n last
       → Closed s then at area out (record { ending = Stopped; size = n }) area last
   unfolding ending_by found_by back
   closes_stop b {n} {last} e f =
-      subst (λ (t : Then). Closed s t at area out (record { ending = Stopped; size = n }) area last) (sym e)
+      subst (λ (t : Result Record RLNCError). Closed s t at area out (record { ending = Stopped; size = n }) area last) (sym e)
       (record { ends = refl; says = λ 𝓕. f; block = refl })

@@ -14,9 +14,9 @@ use Rattle.answers.specs.Number.{Answer, code_of}
 use Rattle.answers.specs.declared.RLNCError.{RLNCError}
 use Rattle.answers.specs.declared.RLNCError.TheVariants.{NoRoom}
 use Rattle.galois.specs.FieldLaws.{FieldLaws}
+use Rattle.stream.specs.declared.Record.{Record}
 use Rattle.reader.specs.declared.Came.{Came}
 use Rattle.reader.specs.declared.Came.TheVariants as came·
-use Rattle.reader.specs.declared.Then.{Then}
 use Rattle.reader.specs.declared.Progress.{Progress}
 use Rattle.reader.specs.Reading.{brought_by, progress}
 use Rattle.reader.specs.Pump.{front, kept, declines, back}
@@ -117,7 +117,7 @@ module _ (𝓕 : FieldLaws) (m : Joiner) (bytes elements area out : List ℕ) wh
       }
 
   -- what is known of it from how it was answered
-  pub record Passed (next : Joiner) (n size : ℕ) (matrix area' last : List ℕ) (came : Came) (then : Then) : Type 0 where
+  pub record Passed (next : Joiner) (n size : ℕ) (matrix area' last : List ℕ) (came : Came) (then : Result Record RLNCError) : Type 0 where
     pub brings : progress m.reader bytes ≡ Ok (brought_by next.reader came then)
     pub passes : declines (joins 𝓕) s came ≡ Ok tt
     pub keeps : state next.joining matrix ≡ kept (joins 𝓕) s came bytes
@@ -167,11 +167,11 @@ module _ (𝓕 : FieldLaws) (m : Joiner) (bytes elements area out : List ℕ) wh
       }
 
   pub passed : {next : Joiner} {n size : ℕ} {matrix area' last : List ℕ} → Feeding 𝓕 m bytes elements area out (Ok (fed next n size)) matrix area' last
-      → (came : Came) × (then : Then) × Passed next n size matrix area' last came then
+      → (came : Came) × (then : Result Record RLNCError) × Passed next n size matrix area' last came then
   unfolding outcome turn_refusal
   passed {next} {n} {size} {matrix} {area'} {last} x = let (k, c) = not_refused x in go (progress m.reader bytes) refl (past_room k) c
     where
       go : (r : Result Progress RLNCError) → progress m.reader bytes ≡ r → turn_refusal 𝓕 s r ≡ Ok tt → Chosen (outcome_by 𝓕 m elements bytes r) next n size matrix area' last
-          → (came : Came) × (then : Then) × Passed next n size matrix area' last came then
+          → (came : Came) × (then : Result Record RLNCError) × Passed next n size matrix area' last came then
       go (Ok p) e k c = (p.came, p.then, as_chosen e k c)
       go (Err b) e k c = let z : ◌≡◌ {A = ℕ} 0 1 = cc in absurd (omega arith)

@@ -6,8 +6,8 @@ use Rattle.answers.specs.declared.RLNCError.TheVariants.{NoRoom}
 use Rattle.galois.specs.FieldLaws.{FieldLaws}
 use Rattle.linear.specs.Choice.{pick}
 use Rattle.block.specs.Refusal.{if_ok, answered}
-use Rattle.reader.specs.declared.Then.{Then}
-use Rattle.reader.specs.declared.Then.TheVariants as then·
+use Rattle.stream.specs.declared.Record.{Record}
+use Rattle.stream.specs.declared.Record.TheVariants as record·
 use Rattle.reader.specs.declared.Progress.{Progress}
 use Rattle.reader.specs.Reading.{started, progress}
 use Rattle.reader.specs.Pump.{Program, front, kept, declines, back}
@@ -52,15 +52,15 @@ joins 𝓕 =
     }
 
 -- recovery's answer decides how it ended, and which data there are
-unfoldable pub ending_by : State → Then → Ending
-ending_by s then·.Body = NotYet
-ending_by s then·.End = if_ok (end_answer s.joining.held s.matrix block_room) (Rebuilt (length (data_of s.joining.held s.matrix))) Open
-ending_by s (then·.Stop e) = Stopped
+unfoldable pub ending_by : State → Result Record RLNCError → Ending
+ending_by s (Ok (record·.Piece g)) = NotYet
+ending_by s (Ok record·.End) = if_ok (end_answer s.joining.held s.matrix block_room) (Rebuilt (length (data_of s.joining.held s.matrix))) Open
+ending_by s (Err e) = Stopped
 
-unfoldable pub found_by : State → Then → List ℕ
-found_by s then·.Body = []
-found_by s then·.End = if_ok (end_answer s.joining.held s.matrix block_room) (data_of s.joining.held s.matrix) []
-found_by s (then·.Stop e) = []
+unfoldable pub found_by : State → Result Record RLNCError → List ℕ
+found_by s (Ok (record·.Piece g)) = []
+found_by s (Ok record·.End) = if_ok (end_answer s.joining.held s.matrix block_room) (data_of s.joining.held s.matrix) []
+found_by s (Err e) = []
 
 -- what a turn leaves: the machine, the matrix, the text of what came first and of what follows, and the data found
 pub record Outcome : Type 0 where

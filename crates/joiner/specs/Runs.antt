@@ -1,9 +1,9 @@
 -- The machine fed with a whole input, call by call, each call known by what `feed` ensures alone.
 use Rattle.std.specs.Prelude.{◌≡◌, List, [], ◌++◌, ℕ, suc, ◌+◌, take, drop, replicate, Ok}
 use Rattle.galois.specs.FieldLaws.{FieldLaws}
+use Rattle.stream.specs.declared.Record.TheVariants as record·
 use Rattle.stream.specs.Streams.{Stream, piece, end, stop, stream_of}
 use Rattle.reader.specs.Reading.{wanted}
-use Rattle.reader.specs.declared.Then.TheVariants as then·
 use Rattle.listing.specs.declared.join.Joining.{Joining}
 use Rattle.listing.specs.Joining.{nothing, joined_after, elements_after}
 use Rattle.listing.specs.Listing.{matrix_length}
@@ -31,7 +31,7 @@ pub record Close : Type 0 where
 -- the same for a stream that is known whole: what recovery answers at its end record decides
 unfoldable pub close_from : FieldLaws → Joining → List ℕ → Stream → Close
 close_from 𝓕 j elements (piece g full later) = close_from 𝓕 (joined_after 𝓕 j elements g full) (elements_after 𝓕 j elements g full) later
-close_from 𝓕 j elements end = record { ending = ending_by (state j elements) then·.End; found = found_by (state j elements) then·.End }
+close_from 𝓕 j elements end = record { ending = ending_by (state j elements) (Ok record·.End); found = found_by (state j elements) (Ok record·.End) }
 close_from 𝓕 j elements (stop e at) = record { ending = Stopped; found = [] }
 
 unfoldable pub close_of : FieldLaws → List ℕ → Close

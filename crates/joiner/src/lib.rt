@@ -13,7 +13,8 @@ use answers::RLNCError;
 use field::Field;
 use listing::LINE_LEN;
 use listing::join::{End, Joining, Step};
-use reader::{Came, Progress, Reader, Then};
+use reader::{Came, Progress, Reader};
+use stream::Record;
 
 // The largest geometry's matrix and block: a constant's value can call no function.
 pub const MATRIX_LEN: usize = 16384;
@@ -136,7 +137,7 @@ fn begin(
 // room for each.
 fn close(
     joining: Joining,
-    then: Then,
+    then: Result<Record, RLNCError>,
     at: u64,
     elements: &[u8],
     data: &mut [u8],
@@ -147,18 +148,18 @@ fn close(
     ensures { Closed (state joining elements.now) «then» at «data».old out.old result «data».new out.new }
 {
     match then {
-        Then::Body => Closing {
+        Ok(Record::Piece(_)) => Closing {
             ending: Ending::NotYet,
             size: 0,
         },
-        Then::End => {
+        Ok(Record::End) => {
             let End { data, size } = joining
                 .finish(elements, &mut data[..BLOCK_LEN], out)
                 .unwrap();
             let ending = data.map_or(Ending::Open, Ending::Rebuilt);
             Closing { ending, size }
         }
-        Then::Stop(e) => Closing {
+        Err(e) => Closing {
             ending: Ending::Stopped,
             size: listing::stop_line(out, Err(e), at).unwrap(),
         },

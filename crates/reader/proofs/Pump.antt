@@ -29,9 +29,7 @@ use Rattle.reader.specs.declared.Place.TheVariants as place·
 use Rattle.reader.specs.declared.Reader.{Reader}
 use Rattle.reader.specs.declared.Came.{Came}
 use Rattle.reader.specs.declared.Came.TheVariants as came·
-use Rattle.reader.specs.declared.Then.{Then}
-use Rattle.reader.specs.declared.Then.TheVariants as then·
-use Rattle.reader.specs.Reading.{longest, started, wanted, opened_by, place_by, then_by, brought_by, brings, progress}
+use Rattle.reader.specs.Reading.{longest, started, wanted, opened_by, place_by, brought_by, brings, progress}
 use Rattle.reader.specs.Pump.{Program, says_from, front, kept, declines, back, turn_by, pumped_from}
 use Rattle.reader.proofs.Reading.{place_decides}
 use Rattle.reader.proofs.ByKind.{cut_to, by_kind}
@@ -51,7 +49,7 @@ module _ {A S : Type 0} (p : Program A S) where
   unfolding wanted
   done_pumped n so_far at s left = wants_nothing n (record { place = place·.Done; seen = so_far; at = at }) s left refl
 
-  pub turned : (n w : ℕ) (r : Reader) (s : S) (left : List ℕ) → wanted r.place ≡ suc w → (next : Reader) (came : Came) (then : Then)
+  pub turned : (n w : ℕ) (r : Reader) (s : S) (left : List ℕ) → wanted r.place ≡ suc w → (next : Reader) (came : Came) (then : Result Record RLNCError)
       → progress r (take (wanted r.place) left) ≡ Ok (brought_by next came then) → declines p s came ≡ Ok tt
       → pumped_from p (suc n) r s left
       ≡ (front p s came (take (wanted r.place) left) ++ back p (kept p s came (take (wanted r.place) left)) then next.at)
@@ -68,13 +66,13 @@ module _ {A S : Type 0} (p : Program A S) where
   -- ---- the end and a stop
 
   ended : (n m : ℕ) (so_far : Option Geometry) (at : ℕ) (s : S) (rest left : List ℕ) → record_at so_far rest ≡ Ok record·.End
-      → back p s then·.End at ++ pumped_from p n (record { place = place·.Done; seen = so_far; at = at }) s left ≡ says_from p s (stream_from (suc m) so_far at rest)
+      → back p s (Ok record·.End) at ++ pumped_from p n (record { place = place·.Done; seen = so_far; at = at }) s left ≡ says_from p s (stream_from (suc m) so_far at rest)
   unfolding says_from back
   ended n m so_far at s rest left e =
       ap (λ (l : List A). p.ending s ++ l) (done_pumped n so_far at s left) ∙ append-nil (p.ending s) ∙ ap (says_from p s) (sym (from_end m so_far at rest e))
 
   stopped : (n m : ℕ) (so_far : Option Geometry) (at : ℕ) (s : S) (rest left : List ℕ) (a : RLNCError) → record_at so_far rest ≡ Err a
-      → back p s (then·.Stop a) at ++ pumped_from p n (record { place = place·.Done; seen = so_far; at = at }) s left ≡ says_from p s (stream_from (suc m) so_far at rest)
+      → back p s (Err a) at ++ pumped_from p n (record { place = place·.Done; seen = so_far; at = at }) s left ≡ says_from p s (stream_from (suc m) so_far at rest)
   unfolding says_from back
   stopped n m so_far at s rest left a e =
       ap (λ (l : List A). p.stopping a at ++ l) (done_pumped n so_far at s left) ∙ append-nil (p.stopping a at)
@@ -91,8 +89,8 @@ module _ {A S : Type 0} (p : Program A S) where
 
     from_kind : (n m : ℕ) (so_far : Option Geometry) (at : ℕ) (s : S) (rest : List ℕ) → length rest < suc n → length rest < suc m → at + length rest ≤ largest → Holds at s → FromBody n (suc m)
         → (r : Result Record RLNCError) → opened_by so_far (take 1 rest) ≡ r
-        → back p s (then_by r) at ++ pumped_from p n (record { place = place_by r; seen = so_far; at = at }) s (drop 1 rest) ≡ says_from p s (stream_from (suc m) so_far at rest)
-    unfolding FromBody opened_by record_at says_from back place_by then_by
+        → back p s r at ++ pumped_from p n (record { place = place_by r; seen = so_far; at = at }) s (drop 1 rest) ≡ says_from p s (stream_from (suc m) so_far at rest)
+    unfolding FromBody opened_by record_at says_from back place_by
     from_kind n m so_far at s [] h k f o from (Ok (record·.Piece g)) e = let z : ◌≡◌ {A = ℕ} 0 1 = cc in absurd (omega arith)
     from_kind n m so_far at s [] h k f o from (Ok record·.End) e = let z : ◌≡◌ {A = ℕ} 0 1 = cc in absurd (omega arith)
     from_kind n m so_far at s [] h k f o from (Err a) e = stopped n m so_far at s [] [] a e
@@ -109,9 +107,9 @@ module _ {A S : Type 0} (p : Program A S) where
       behind t f = by_kind so_far kind (length left) ∙ ap (cut_to (length left)) e ∙ ap (λ (u : Bool). pick u (Err CutRecord) (Ok (record·.Piece g))) f
 
       cut_body : ltb (length left) (body_of g) ≡ true → pumped_from p (suc n) (body_at g so_far at) s left ≡ says_from p s (stream_from (suc m) so_far at (kind ∷ left))
-      unfolding wanted front kept declines place_by then_by
+      unfolding wanted front kept declines place_by
       cut_body f =
-          turned n (body_of g) (body_at g so_far at) s left (add-one (body_of g)) _ came·.Cut (then·.Stop CutRecord)
+          turned n (body_of g) (body_at g so_far at) s left (add-one (body_of g)) _ came·.Cut (Err CutRecord)
           (brings_cut g so_far at left (ltb-true (length left) (body_of g) f)) refl
           ∙ stopped n m so_far at s (kind ∷ left) (drop (body_of g + 1) left) CutRecord (behind true f)
 
@@ -127,10 +125,10 @@ module _ {A S : Type 0} (p : Program A S) where
           let next : Reader = record { place = place_by r; seen = Some g; at = at + 1 + body_of g } in
           let q : take (body_of g) (take (body_of g + 1) left) ≡ full = take-take (body_of g) (body_of g + 1) left (omega arith) in
           let d : drop (body_of g + 1) left ≡ drop 1 rest = sym (drop-drop 1 (body_of g) left) in
-          turned n (body_of g) (body_at g so_far at) s left (add-one (body_of g)) next (came·.Piece g) (then_by r)
+          turned n (body_of g) (body_at g so_far at) s left (add-one (body_of g)) next (came·.Piece g) r
           (brings_whole g so_far at left b (omega arith)) (passes at s g o (omega arith))
-          ∙ (λ i. (p.line s g (q i) ++ back p (p.after s g (q i)) (then_by r) (at + 1 + body_of g)) ++ pumped_from p n next (p.after s g (q i)) (d i))
-          ∙ append_assoc (p.line s g full) (back p t (then_by r) (at + 1 + body_of g)) (pumped_from p n next t (drop 1 rest))
+          ∙ (λ i. (p.line s g (q i) ++ back p (p.after s g (q i)) r (at + 1 + body_of g)) ++ pumped_from p n next (p.after s g (q i)) (d i))
+          ∙ append_assoc (p.line s g full) (back p t r (at + 1 + body_of g)) (pumped_from p n next t (drop 1 rest))
           ∙ ap (λ (x : List A). p.line s g full ++ x)
           (from_kind n m (Some g) (at + 1 + body_of g) t rest (omega (arith, length-drop (body_of g) left)) (omega (arith, length-drop (body_of g) left))
           (omega (arith, length-drop (body_of g) left)) (goes_on at s g full o) from r refl)
@@ -159,7 +157,7 @@ module _ {A S : Type 0} (p : Program A S) where
     pumped_is (suc n) s input o small h =
         let r : Result Record RLNCError = opened_by None (take 1 input) in
         let next : Reader = record { place = place_by r; seen = None; at = 0 } in
-        turned n 0 started s input refl next came·.Start (then_by r) (place_decides started (take 1 input) (simp length-take (omega arith))) refl
-        ∙ append_assoc p.header (back p s (then_by r) 0) (pumped_from p n next s (drop 1 input))
+        turned n 0 started s input refl next came·.Start r (place_decides started (take 1 input) (simp length-take (omega arith))) refl
+        ∙ append_assoc p.header (back p s r 0) (pumped_from p n next s (drop 1 input))
         ∙ ap (λ (x : List A). p.header ++ x)
         (from_kind n (length input) None 0 s input h (omega arith) (omega arith) o (from_body n (suc (length input))) r refl)

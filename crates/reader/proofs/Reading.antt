@@ -23,10 +23,8 @@ use Rattle.reader.specs.declared.Place.TheVariants as place·
 use Rattle.reader.specs.declared.Reader.{Reader}
 use Rattle.reader.specs.declared.Came.{Came}
 use Rattle.reader.specs.declared.Came.TheVariants as came·
-use Rattle.reader.specs.declared.Then.{Then}
-use Rattle.reader.specs.declared.Then.TheVariants as then·
 use Rattle.reader.specs.declared.Progress.{Progress}
-use Rattle.reader.specs.Reading.{longest, wanted, opened_by, place_by, then_by, brought_by, on, body_brings, brings, progress, body_in}
+use Rattle.reader.specs.Reading.{longest, wanted, opened_by, place_by, brought_by, on, body_brings, brings, progress, body_in}
 
 pub body_short : (g : Geometry) → body_of g ≤ longest
 body_short Of3By2 = omega arith
@@ -66,19 +64,19 @@ pub data Brought (r : Reader) (bytes : List ℕ) (next : Reader) : Came → Type
   cut : next.at ≡ r.at → Brought r bytes next came·.Cut
 
 -- a body is wanted exactly where one is to come
-pub data Opened : Place → Then → Type 0 where
-  body : {g : Geometry} → Opened (place·.Body g) then·.Body
-  ended : Opened place·.Done then·.End
-  stopped : {a : RLNCError} → Opened place·.Done (then·.Stop a)
+pub data Opened : Place → Result Record RLNCError → Type 0 where
+  body : {g : Geometry} → Opened (place·.Body g) (Ok (record·.Piece g))
+  ended : Opened place·.Done (Ok record·.End)
+  stopped : {a : RLNCError} → Opened place·.Done (Err a)
 
-by_record : (r : Result Record RLNCError) → Opened (place_by r) (then_by r)
-unfolding place_by then_by
+by_record : (r : Result Record RLNCError) → Opened (place_by r) r
+unfolding place_by
 by_record (Ok (record·.Piece g)) = body
 by_record (Ok record·.End) = ended
 by_record (Err e) = stopped
 
 data Sound (r : Reader) (bytes : List ℕ) : Result Progress RLNCError → Type 0 where
-  goes : {next : Reader} {came : Came} {then : Then} → Brought r bytes next came → Opened next.place then → Sound r bytes (Ok (brought_by next came then))
+  goes : {next : Reader} {came : Came} {then : Result Record RLNCError} → Brought r bytes next came → Opened next.place then → Sound r bytes (Ok (brought_by next came then))
   bad : Sound r bytes (Err BadState)
 
 either : {r : Reader} {bytes : List ℕ} {x y : Result Progress RLNCError} (t : Bool) → (t ≡ true → Sound r bytes x) → (t ≡ false → Sound r bytes y) → Sound r bytes (pick t x y)
@@ -96,26 +94,26 @@ sound r bytes = either (ltb (wanted r.place) (length bytes)) (λ e. bad) (λ e. 
         (λ e. either (ltb largest (r.at + 1 + body_of g)) (λ f. bad) (λ f. goes (whole {g = g} (ltb-false _ _ e) refl (ltb-false _ _ f)) (by_record _)))
     at_place place·.Done = bad
 
-as_brought : {r : Reader} {bytes : List ℕ} {next : Reader} {came : Came} {then : Then} → Sound r bytes (Ok (brought_by next came then)) → Brought r bytes next came
+as_brought : {r : Reader} {bytes : List ℕ} {next : Reader} {came : Came} {then : Result Record RLNCError} → Sound r bytes (Ok (brought_by next came then)) → Brought r bytes next came
 as_brought (goes b o) = b
 
-as_opened : {r : Reader} {bytes : List ℕ} {next : Reader} {came : Came} {then : Then} → Sound r bytes (Ok (brought_by next came then)) → Opened next.place then
+as_opened : {r : Reader} {bytes : List ℕ} {next : Reader} {came : Came} {then : Result Record RLNCError} → Sound r bytes (Ok (brought_by next came then)) → Opened next.place then
 as_opened (goes b o) = o
 
 no_other : {r : Reader} {bytes : List ℕ} {a : RLNCError} → Sound r bytes (Err a) → a ≡ BadState
 no_other bad = refl
 
 module _ (r : Reader) (bytes : List ℕ) where
-  pub brought : {next : Reader} {came : Came} {then : Then} → progress r bytes ≡ Ok (brought_by next came then) → Brought r bytes next came
+  pub brought : {next : Reader} {came : Came} {then : Result Record RLNCError} → progress r bytes ≡ Ok (brought_by next came then) → Brought r bytes next came
   brought e = as_brought (subst (Sound r bytes) e (sound r bytes))
 
-  pub opens : {next : Reader} {came : Came} {then : Then} → progress r bytes ≡ Ok (brought_by next came then) → Opened next.place then
+  pub opens : {next : Reader} {came : Came} {then : Result Record RLNCError} → progress r bytes ≡ Ok (brought_by next came then) → Opened next.place then
   opens e = as_opened (subst (Sound r bytes) e (sound r bytes))
 
   pub only_bad : {a : RLNCError} → progress r bytes ≡ Err a → a ≡ BadState
   only_bad e = no_other (subst (Sound r bytes) e (sound r bytes))
 
-  pub body_came : {next : Reader} {came : Came} {then : Then} → progress r bytes ≡ Ok (brought_by next came then) → body_in came ≤ length bytes
+  pub body_came : {next : Reader} {came : Came} {then : Result Record RLNCError} → progress r bytes ≡ Ok (brought_by next came then) → body_in came ≤ length bytes
   unfolding body_in
   body_came e = there (brought e)
     where

@@ -24,7 +24,6 @@ use Rattle.reader.specs.declared.Place.TheVariants as place·
 use Rattle.reader.specs.declared.Reader.{Reader}
 use Rattle.reader.specs.declared.Came.{Came}
 use Rattle.reader.specs.declared.Came.TheVariants as came·
-use Rattle.reader.specs.declared.Then.{Then}
 use Rattle.reader.specs.Reading.{started, wanted, opened_by, place_by, brought_by, on, brings, progress}
 use Rattle.reader.specs.Pump.{Reads, done, turn}
 use Rattle.reader.proofs.Reading.{body_cut, body_whole, place_decides}
@@ -70,7 +69,7 @@ from_opened so_far at (kind ∷ later) from (Ok (record·.Piece g)) e = from g k
 from_opened so_far at rest from (Ok record·.End) e = ends_here so_far at (drop 1 rest)
 from_opened so_far at rest from (Err a) e = ends_here so_far at (drop 1 rest)
 
-one_more : {most : ℕ} {r next : Reader} {came : Came} {then : Then} {left : List ℕ} → (wanted r.place ≡ 0 → ⊥)
+one_more : {most : ℕ} {r next : Reader} {came : Came} {then : Result Record RLNCError} {left : List ℕ} → (wanted r.place ≡ 0 → ⊥)
     → progress r (take (wanted r.place) left) ≡ Ok (brought_by next came then) → Within most next (drop (wanted r.place) left) → Within (suc most) r left
 one_more k e later = (suc later.0, omega (arith, later.1), turn k e later.2)
 

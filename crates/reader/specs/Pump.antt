@@ -6,13 +6,13 @@ use Rattle.answers.specs.declared.RLNCError.{RLNCError}
 use Rattle.linear.specs.Choice.{if_zero}
 use Rattle.block.specs.Refusal.{if_ok}
 use Rattle.stream.specs.declared.Geometry.{Geometry}
+use Rattle.stream.specs.declared.Record.{Record}
+use Rattle.stream.specs.declared.Record.TheVariants as record·
 use Rattle.stream.specs.Geometries.{body_of}
 use Rattle.stream.specs.Streams.{Stream, piece, end, stop}
 use Rattle.reader.specs.declared.Reader.{Reader}
 use Rattle.reader.specs.declared.Came.{Came}
 use Rattle.reader.specs.declared.Came.TheVariants as came·
-use Rattle.reader.specs.declared.Then.{Then}
-use Rattle.reader.specs.declared.Then.TheVariants as then·
 use Rattle.reader.specs.declared.Progress.{Progress}
 use Rattle.reader.specs.Reading.{wanted, brought_by, progress}
 
@@ -49,10 +49,10 @@ module _ {A S : Type 0} (p : Program A S) where
   declines s (came·.Piece g) = p.refusal s g
   declines s came·.Cut = Ok tt
 
-  unfoldable pub back : S → Then → ℕ → List A
-  back s then·.Body at = []
-  back s then·.End at = p.ending s
-  back s (then·.Stop a) at = p.stopping a at
+  unfoldable pub back : S → Result Record RLNCError → ℕ → List A
+  back s (Ok (record·.Piece g)) at = []
+  back s (Ok record·.End) at = p.ending s
+  back s (Err a) at = p.stopping a at
 
   -- what is said in a turn, and then; a refusal ends it
   unfoldable pub turn_by : S → List ℕ → (Reader → S → List A) → Result Progress RLNCError → List A
@@ -70,5 +70,5 @@ module _ {A S : Type 0} (p : Program A S) where
 -- an input read in so many turns: what is wanted of the bytes left is read, until nothing is wanted. No turn is refused
 pub data Reads : ℕ → Reader → List ℕ → Type 0 where
   done : {r : Reader} {left : List ℕ} → wanted r.place ≡ 0 → Reads 0 r left
-  turn : {n : ℕ} {r next : Reader} {came : Came} {then : Then} {left : List ℕ} → (wanted r.place ≡ 0 → ⊥)
+  turn : {n : ℕ} {r next : Reader} {came : Came} {then : Result Record RLNCError} {left : List ℕ} → (wanted r.place ≡ 0 → ⊥)
       → progress r (take (wanted r.place) left) ≡ Ok (brought_by next came then) → Reads n next (drop (wanted r.place) left) → Reads (suc n) r left

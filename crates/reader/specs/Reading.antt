@@ -14,8 +14,6 @@ use Rattle.reader.specs.declared.Place.TheVariants as place·
 use Rattle.reader.specs.declared.Reader.{Reader}
 use Rattle.reader.specs.declared.Came.{Came}
 use Rattle.reader.specs.declared.Came.TheVariants as came·
-use Rattle.reader.specs.declared.Then.{Then}
-use Rattle.reader.specs.declared.Then.TheVariants as then·
 use Rattle.reader.specs.declared.Progress.{Progress}
 
 -- the longest body
@@ -36,27 +34,22 @@ unfoldable pub opened_by : Option Geometry → List ℕ → Result Record RLNCEr
 opened_by so_far [] = Err CutRecord
 opened_by so_far (kind ∷ behind) = kind_record so_far kind longest
 
--- what is wanted behind an opened record, and what is said of it
+-- what is wanted behind an opened record
 unfoldable pub place_by : Result Record RLNCError → Place
 place_by (Ok (record·.Piece g)) = place·.Body g
 place_by (Ok record·.End) = place·.Done
 place_by (Err e) = place·.Done
 
-unfoldable pub then_by : Result Record RLNCError → Then
-then_by (Ok (record·.Piece g)) = then·.Body
-then_by (Ok record·.End) = then·.End
-then_by (Err e) = then·.Stop e
-
 abbrev pub wanting_at : Option Geometry → ℕ → Place → Reader
 wanting_at so_far at place = record { place = place; seen = so_far; at = at }
 
--- what came, what the record behind it is, and the reader then
-abbrev pub brought_by : Reader → Came → Then → Progress
+-- what came, the record opened behind it or why none was, and the reader then
+abbrev pub brought_by : Reader → Came → Result Record RLNCError → Progress
 brought_by next came then = record { reader = next; came = came; then = then }
 
 -- a record opened at an offset, and what came before it
 abbrev pub on : Option Geometry → ℕ → Came → Result Record RLNCError → Progress
-on so_far at came r = brought_by (wanting_at so_far at (place_by r)) came (then_by r)
+on so_far at came r = brought_by (wanting_at so_far at (place_by r)) came r
 
 -- a body: "a record cut short .. 25"; else the record behind it, at an offset that has to be a number of the machine
 unfoldable pub body_brings : Geometry → Reader → List ℕ → Result Progress RLNCError

@@ -40,20 +40,13 @@ pub enum Came {
     Cut,
 }
 
-// What the record behind it is: a piece, whose body is still to come; the end; or one that stops the stream.
-#[derive(Clone, Copy, PartialEq, Eq, Debug)]
-pub enum Then {
-    Body,
-    End,
-    Stop(RLNCError),
-}
-
-// What the bytes that were wanted brought, and the reader behind them.
+// What the bytes that were wanted brought, and the reader behind them. Then comes a piece, whose body is wanted next, or the end, or an error, which
+// stops the stream.
 #[derive(Clone, Copy, PartialEq, Eq, Debug)]
 pub struct Progress {
     pub reader: Reader,
     pub came: Came,
-    pub then: Then,
+    pub then: Result<Record, RLNCError>,
 }
 
 impl Reader {
@@ -111,14 +104,13 @@ impl Reader {
     }
 
     // A record was opened at the offset.
-    #[tactic(auto, unfolding(crate::specs::Reading::place_by, crate::specs::Reading::then_by))]
-    fn next(self, came: Came, opened: Result<Record, RLNCError>) -> Progress
-        ensures { result ≡ on self.seen self.at came opened }
+    #[tactic(auto, unfolding(crate::specs::Reading::place_by))]
+    fn next(self, came: Came, then: Result<Record, RLNCError>) -> Progress
+        ensures { result ≡ on self.seen self.at came «then» }
     {
-        let (place, then) = match opened {
-            Ok(Record::Piece(g)) => (Place::Body(g), Then::Body),
-            Ok(Record::End) => (Place::Done, Then::End),
-            Err(e) => (Place::Done, Then::Stop(e)),
+        let place = match then {
+            Ok(Record::Piece(g)) => Place::Body(g),
+            Ok(Record::End) | Err(_) => Place::Done,
         };
         Progress {
             reader: Reader { place, ..self },
