@@ -14,12 +14,12 @@ use field::Field;
 use listing::LINE_LEN;
 use listing::join::{End, Joining, Step};
 use reader::{Came, Progress, Reader};
-use stream::Record;
+use stream::{MOST_BYTES, MOST_PIECES, Record};
 
-// The largest geometry's matrix and block: a constant's value can call no function.
-pub const MATRIX_LEN: usize = 16384;
+// The largest geometry's matrix and block.
+pub const MATRIX_LEN: usize = MOST_PIECES * (MOST_PIECES + MOST_BYTES);
 
-pub const BLOCK_LEN: usize = 15360;
+pub const BLOCK_LEN: usize = MOST_PIECES * MOST_BYTES;
 
 // The longest text of one turn: a piece's line, the end line, and the line of the data.
 pub const TEXT_LEN: usize = 2 * LINE_LEN + 2 * BLOCK_LEN + 1;

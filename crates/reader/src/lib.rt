@@ -7,10 +7,10 @@ ghost use Rattle.std.specs.Prelude.{◌≡◌};
 ghost use Rattle.reader.specs.Reading.{started, wanted, opened_by, on, body_brings, progress};
 
 use answers::RLNCError;
-use stream::{Geometry, Record};
+use stream::{Geometry, MOST_BYTES, MOST_PIECES, Record};
 
-// The longest body, that of the largest geometry: a constant's value can call no function.
-const BODY_LEN: usize = 512;
+// The longest body, that of the largest geometry.
+const BODY_LEN: usize = MOST_PIECES + MOST_BYTES;
 
 // The longest body with the kind byte behind it: more is never wanted.
 pub const INPUT_LEN: usize = BODY_LEN + 1;
