@@ -33,7 +33,7 @@ pub enum Ending {
     Stopped,
 }
 
-#[derive(Clone, Copy)]
+#[derive(Clone, Copy, PartialEq, Eq, Debug)]
 pub struct Joiner {
     pub reader: Reader,
     pub joining: Joining,
@@ -41,7 +41,7 @@ pub struct Joiner {
 }
 
 // The machine after a turn, and how many bytes of text there are: of what came first, and behind it of what follows, the last lines among them.
-#[derive(Clone, Copy)]
+#[derive(Clone, Copy, PartialEq, Eq, Debug)]
 pub struct Fed {
     pub joiner: Joiner,
     pub first: usize,

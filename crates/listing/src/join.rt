@@ -12,7 +12,7 @@ use field::Field;
 use stream::Geometry;
 
 // The decoder, once a piece has come; how many pieces have come, and how many of them were answered 8.
-#[derive(Clone, Copy)]
+#[derive(Clone, Copy, PartialEq, Eq, Debug)]
 pub struct Joining {
     pub held: Option<Decoder>,
     pub pieces: u64,
@@ -20,7 +20,7 @@ pub struct Joining {
 }
 
 // The record after a piece, and how many bytes its line has.
-#[derive(Clone, Copy)]
+#[derive(Clone, Copy, PartialEq, Eq, Debug)]
 pub struct Step {
     pub joining: Joining,
     pub size: usize,
@@ -80,9 +80,9 @@ impl Joining {
 
     // Counts a piece that got an answer, and puts its line.
     fn count(self, d: Decoder, answer: Answer, out: &mut [u8]) -> Step
-        requires in_bounds { 84 ≤ length out.old }
+        requires in_bounds { LINE_LEN ≤ length out.old }
         requires repeats_le_pieces { self.repeats ≤ self.pieces }
-        requires pieces_bound { self.pieces < 18446744073709551615 }
+        requires pieces_bound { self.pieces < u64.MAX }
         ensures { Counted self d answer out.old result out.new }
     {
         let pieces = self.pieces + 1;

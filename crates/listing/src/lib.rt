@@ -22,7 +22,7 @@ type Line = ArrayString<LINE_LEN>;
 
 // Puts the decimal digits of n behind the line, and a byte behind them.
 fn put_number(line: &mut Line, n: u64, behind: char)
-    requires room { array_string_len line.old + 21 ≤ 84 }
+    requires room { array_string_len line.old + 21 ≤ LINE_LEN }
     requires ascii { behind < 128 }
     ensures appended { line.new.bytes ≡ line.old.bytes ++ (decimal n ++ (behind ∷ [])) }
     ensures upper_bound { array_string_len line.new ≤ array_string_len line.old + 21 }
@@ -115,7 +115,7 @@ pub fn data_line(out: &mut [u8], data: &[u8]) -> Result<usize, RLNCError>
 
 // The end line of a set that was recovered, and the line of its data.
 pub(crate) fn data_lines(out: &mut [u8], data: &[u8], repeats: u64) -> Result<usize, RLNCError>
-    requires { 84 + (length «data».now * 2 + 1) ≤ length out.old }
+    requires { LINE_LEN + (length «data».now * 2 + 1) ≤ length out.old }
     ensures { Lined (end_line 0 (length «data».now) repeats ++ data_line «data».now) out.old result out.new }
 {
     let end = end_line(out, Ok(()), data.len(), repeats)?;
