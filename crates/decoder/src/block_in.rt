@@ -49,6 +49,7 @@ impl<'a> BlockIn<'a> {
     }
 
     // The index of the block's last marker.
+    // Tried: `(0..k).rev().find_map(..)`. The proof does not close: it does not know that the closure is called for rows below k alone.
     #[tactic(auto, using(crate::proofs::Marker::index_in, crate::proofs::Payload::bytes_within, crate::proofs::Search::none_behind, crate::proofs::Search::row_marked, crate::proofs::Search::row_unmarked))]
     fn find_marker(&self) -> Option<usize>
         ensures { result ≡ last_marker marker (bytes self.now) }
@@ -62,6 +63,7 @@ impl<'a> BlockIn<'a> {
     }
 
     // Whether the block's bytes from `at` on are zero: the rest of a row, then the rows behind it.
+    // Tried: `(at / len..k).all(..)`. The proof does not close: zeros row by row have to be those of the block.
     fn is_zero_from(&self, at: usize) -> bool
         ensures { result ≡ all_zero (drop at (bytes self.now)) }
     {
@@ -75,7 +77,7 @@ impl<'a> BlockIn<'a> {
     }
 
     // The block's first bytes, as many as `data` has.
-    // Not by chunks_mut: a proof does not see what was written through its parts.
+    // Tried: `chunks_mut`. A proof does not see what was written through its parts.
     pub(crate) fn copy_to(&self, data: &mut [u8])
         requires { length «data».old ≤ self.now.k * self.now.len }
         ensures { «data».new ≡ take (length «data».old) (bytes self.now) }
