@@ -1,22 +1,14 @@
 -- The tests of the sizes, as bounds.
 -- Assumes nothing.
-use mathlib.Core.Path.{◌≡◌, sym, ap, ◌∙◌}
+use mathlib.Core.Path.{◌≡◌}
 use mathlib.Core.Bool.{true, false, not}
 use Prim.Native.Nat.{ℕ, ◌*◌, ◌≤◌, ◌<◌}
 use native.Mathlib.Nat.{mul-le-mul}
-use native.Mathlib.Decide.{dec_le}
 use native.Mathlib.Omega.{arith}
-use lib.Dec.{eqb, leb, ltb}
-use borrow.Author.Tests.{ltb-false, eqb-false, not-true, le-leb, lt-leb, le-ltb, lt-ltb}
+use lib.Dec.{eqb, ltb}
+use borrow.Author.Tests.{ltb-false, eqb-false, not-true}
 use Rattle.linear.proofs.Choice.{and_true, or_false}
 use Rattle.block.specs.Sizes.{over_limit, sized}
-
-pub not_less : (a b : ℕ) → leb a b ≡ not (ltb b a)
-not_less a b = go (dec_le a b)
-  where
-    go : Dec (a ≤ b) → leb a b ≡ not (ltb b a)
-    go (yes h) = le-leb a b h ∙ sym (ap not (le-ltb b a h))
-    go (no n) = let k : b < a = omega arith in lt-leb a b k ∙ sym (ap not (lt-ltb b a k))
 
 -- ---- the limits
 
