@@ -10,4 +10,3 @@ pub mod Room
 pub mod Short
 pub mod Stepping
 pub mod Taking
-pub mod TwoLines

@@ -1,4 +1,4 @@
--- The two outcomes of a line that is put at the front of a buffer, and a byte put behind it.
+-- A line put whole at the front of a buffer, and a byte put behind it.
 -- Assumes nothing.
 use mathlib.Core.Path.{◌≡◌, sym, ap, ◌∙◌}
 use mathlib.Core.List.{List, [], ◌∷◌, ◌++◌, append_assoc}
@@ -6,13 +6,9 @@ use Prim.Native.Nat.{ℕ, suc, ◌+◌, ◌≤◌, ◌<◌}
 use native.Mathlib.Numerals.{add-one}
 use lib.ListN.{length, get_or, drop, set}
 use lib.Seq.{drop-cons, set_at}
-use borrow.Author.Tests.{lt-ltb, le-ltb}
-use Rattle.std.specs.Prelude.{Ok, Err}
-use Rattle.answers.specs.declared.RLNCError.TheVariants.{NoRoom}
+use borrow.Author.Tests.{le-ltb}
+use Rattle.std.specs.Prelude.{Ok}
 use Rattle.listing.specs.Puts.{Lined}
-
-pub refused : {line out : List ℕ} → length out < length line → Lined line out (Err NoRoom) out
-refused h = record { result = simp (lt-ltb _ _ h); left = simp (lt-ltb _ _ h) }
 
 pub placed : {line out last : List ℕ} {n : ℕ} → length line ≤ length out → n ≡ length line → last ≡ line ++ drop n out → Lined line out (Ok n) last
 placed h e l = record { result = simp (le-ltb _ _ h, e); left = l ∙ simp (le-ltb _ _ h, e) }
