@@ -114,12 +114,6 @@ module _ (g : Geometry) (d : Decoder) (elements behind : List ℕ) (k_is : k_of 
       ap (λ (l : List ℕ). l ++ drop (matrix_size g) matrix) matrix_is ∙ append_assoc (flat (held_rows d elements)) rest (drop (matrix_size g) matrix)
       ∙ (λ i. flat (held_rows d elements) ++ (replicate (sym size i) 0 ++ drop (sym (whole_matrix g d elements k_is l_is) i) matrix))
 
-  front : (matrix : List ℕ) → take (k_of d * f_of d) (holding (k_of d) (f_of d) (held_rows d elements) matrix) ≡ form_matrix g form
-  front matrix =
-      (λ i. take (whole_matrix g d elements k_is l_is i) (sym (filled matrix) i))
-      ∙ take_at (form_matrix g form) (drop (matrix_size g) matrix) (matrix_size g)
-      (ap length matrix_is ∙ length_matrix g d elements k_is l_is h.numbers.rows_pieces h.room)
-
   held_again : (matrix : List ℕ) → held_rows d (holding (k_of d) (f_of d) (held_rows d elements) matrix) ≡ held_rows d elements
   unfolding held_rows
   held_again matrix =
@@ -149,20 +143,12 @@ module _ {d : Decoder} {elements out out' : List ℕ} {n : ℕ} (s : Saving d el
       (fine g d elements behind k_is l_is h) refl) in
       (e ∙ ap Ok (decoder_is g d elements behind k_is l_is h), m ∙ filled g d elements behind k_is l_is h matrix)
 
-  -- so the loaded decoder goes on where the saved one was: the same held rows, and as much of the matrix as a decoder reads is as if the dropped
-  -- rows' area of the saved one had been cleared
+  -- so the loaded decoder holds the rows that the saved one held
   pub same_rows : (matrix : List ℕ) → held_rows d (holding (k_of d) (f_of d) (held_rows d elements) matrix) ≡ held_rows d elements
   same_rows matrix =
       let (k_is, l_is) = sizes_are (k_of d) (l_of d) it.geometry it.sizes in
       let h = holds d (length elements) it.fine in
       held_again it.geometry d elements [] k_is l_is h matrix
-
-  pub same_front : (matrix : List ℕ)
-      → take (k_of d * f_of d) (holding (k_of d) (f_of d) (held_rows d elements) matrix) ≡ take (k_of d * f_of d) (holding (k_of d) (f_of d) (held_rows d elements) elements)
-  same_front matrix =
-      let (k_is, l_is) = sizes_are (k_of d) (l_of d) it.geometry it.sizes in
-      let h = holds d (length elements) it.fine in
-      front it.geometry d elements [] k_is l_is h matrix ∙ sym (front it.geometry d elements [] k_is l_is h elements)
 
 -- ---- what loads
 
