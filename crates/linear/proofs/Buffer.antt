@@ -7,7 +7,8 @@ use Prim.Native.Nat.{ℕ, zero, suc, ◌+◌, ◌*◌, ◌≤◌, ◌<◌}
 use native.Mathlib.Nat.{le_of_suc-le-suc, not-suc-le-zero, zero-mul, suc-mul, mul-le-mul_right, add_comm}
 use native.Mathlib.Numerals.{add-one}
 use native.Mathlib.Omega.{arith}
-use lib.ListN.{length, get_or, take, drop, set, length-append, length-drop, take-append-drop}
+use lib.ListN.{length, get_or, take, drop, set, length-append, length-drop}
+use Rattle.std.proofs.lemmas.Slice.{drop-append-drop}
 use lib.Seq.{set_at, take_at, drop_at, take-add, drop-drop, length-take-le, get_or-take, get_or-drop}
 use Rattle.linear.specs.All.{All, none, more}
 use Rattle.linear.specs.Rows.{entry}
@@ -28,26 +29,12 @@ length_part a f buffer h = length-take-le f (drop a buffer) (simp length-drop (o
 pub length_put : (a k : ℕ) (r buffer : List ℕ) → a + k ≤ length buffer → length r ≡ k → length (put a k r buffer) ≡ length buffer
 length_put a k r buffer h e = simp (length-append, length-drop, length-take-le a buffer (omega arith)) (omega (arith, e))
 
--- two fronts as long as each other: past them the lists are the same
-drop_past : (p q s : List ℕ) (c : ℕ) → length p ≡ length q → length p ≤ c → drop c (p ++ s) ≡ drop c (q ++ s)
-drop_past [] [] s c e h = refl
-drop_past [] (y ∷ q) s c e h = absurd (omega arith)
-drop_past (x ∷ p) [] s c e h = absurd (omega arith)
-drop_past (x ∷ p) (y ∷ q) s zero e h = absurd (not-suc-le-zero h)
-drop_past (x ∷ p) (y ∷ q) s (suc c) e h = drop_past p q s c (omega arith) (le_of_suc-le-suc h)
-
 -- what is behind the part stays
 pub rest_put : (c a f : ℕ) (r buffer : List ℕ) → a + f ≤ c → a + f ≤ length buffer → length r ≡ f → drop c (put a f r buffer) ≡ drop c buffer
 rest_put c a f r buffer h w e =
-    let t : length (take a buffer) ≡ a = length-take-le a buffer (omega arith) in
-    let same : length (take a buffer ++ r) ≡ length (take a buffer ++ take f (drop a buffer)) =
-    simp length-append (ap (λ (k : ℕ). length (take a buffer) + k) (e ∙ sym (length_part a f buffer w))) in
-    let short : length (take a buffer ++ r) ≤ c = simp length-append (omega arith) in
-    ap (drop c) (sym (append_assoc (take a buffer) r (drop f (drop a buffer))))
-    ∙ drop_past (take a buffer ++ r) (take a buffer ++ take f (drop a buffer)) (drop f (drop a buffer)) c same short
-    ∙ ap (drop c)
-    (append_assoc (take a buffer) (take f (drop a buffer)) (drop f (drop a buffer))
-    ∙ ap (λ (l : List ℕ). take a buffer ++ l) (take-append-drop f (drop a buffer)) ∙ take-append-drop a buffer)
+    let long : length (take a buffer ++ r) ≡ a + f = simp (length-append, length-take-le a buffer (omega arith), e) refl in
+    (λ i. drop c (take a buffer ++ (r ++ drop-drop f a buffer i))) ∙ ap (drop c) (sym (append_assoc (take a buffer) r (drop (a + f) buffer)))
+    ∙ drop-append-drop (a + f) buffer (take a buffer ++ r) c h long
 
 -- ---- the rows of a buffer
 
@@ -56,7 +43,7 @@ module _ (f : ℕ) where
   pub row_end : {j n : ℕ} → j < n → j * f + f ≤ n * f
   row_end {j} {n} h = subst (λ (k : ℕ). k ≤ n * f) (suc-mul j f) (mul-le-mul_right f h)
 
-  suc_row : (j : ℕ) → suc j * f ≡ f + j * f
+  pub suc_row : (j : ℕ) → suc j * f ≡ f + j * f
   suc_row j = suc-mul j f ∙ add_comm (j * f) f
 
   pub length_rows_of : (n : ℕ) (buffer : List ℕ) → length (rows_of f n buffer) ≡ n

@@ -3,16 +3,13 @@
 use mathlib.Core.Path.{◌≡◌, refl, sym, ap, ◌∙◌}
 use mathlib.Core.List.{List, [], ◌∷◌, ◌++◌, append_assoc}
 use Prim.Native.Nat.{ℕ, zero, suc, ◌+◌, ◌-◌, ◌*◌, ◌≤◌}
-use native.Mathlib.Nat.{zero-mul, suc-mul, add_comm, mul-sub, mul_comm, mul-le-mul_right}
+use native.Mathlib.Nat.{zero-mul, mul-sub, mul_comm, mul-le-mul_right}
 use native.Mathlib.Omega.{arith}
 use lib.ListN.{length, take, drop, replicate, take-append-drop, length-append}
 use lib.Seq.{take-add, drop-drop, take_at, drop_at}
 use Rattle.linear.specs.All.{All, none, more}
 use Rattle.linear.specs.Buffer.{rows_of, flat, Ruled}
-use Rattle.linear.proofs.Buffer.{put}
-
-suc_row : (f n : ℕ) → suc n * f ≡ f + n * f
-suc_row f n = suc-mul n f ∙ add_comm (n * f) f
+use Rattle.linear.proofs.Buffer.{put, suc_row}
 
 -- the rows of a buffer, one after the other, are its front
 pub flat_front : (f n : ℕ) (b : List ℕ) → flat (rows_of f n b) ≡ take (n * f) b
