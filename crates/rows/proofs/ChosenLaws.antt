@@ -3,11 +3,11 @@
 use mathlib.Core.Path.{◌≡◌, refl, sym, ap, ap₂, ◌∙◌, subst}
 use mathlib.Core.List.{List, [], ◌∷◌, ◌++◌}
 use mathlib.Core.Logic.{⊎_elim}
-use Prim.Native.Nat.{ℕ, zero, suc, ◌+◌, ◌*◌, ◌/◌, ◌%◌, ◌^◌, ◌-◌, ◌≤◌, ◌<◌}
+use Prim.Native.Nat.{ℕ, zero, suc, ◌+◌, ◌*◌, ◌/◌, ◌%◌, ◌^◌, ◌≤◌, ◌<◌}
 use native.Mathlib.Nat.{add-zero, add-mul, suc-mul, zero-mul, one-mul, eq-or-lt_of_le}
 use native.Mathlib.Omega.{arith}
-use lib.ListN.{length, get_or, take, drop, set, get_or-append, length-append, length-drop}
-use lib.Seq.{drop-drop, get_or-take, get_or-drop, get_or-append_seam, take_all}
+use lib.ListN.{length, get_or, take, drop, set, get_or-append, length-append}
+use lib.Seq.{drop-drop, get_or-take, get_or-drop, get_or-append_seam}
 use Rattle.std.specs.Simd.{first_chunks}
 use Rattle.std.proofs.lemmas.List.{take-set-le, take_more_set}
 use Rattle.galois.specs.Gf.{◌⊕◌}
@@ -181,7 +181,3 @@ pub none_left : (bit width : ℕ) (rest left : List ℕ) (i x : ℕ) → length 
 unfolding sum_chosen
 none_left bit width [] left i x e = ⊕_zero x
 none_left bit width (c ∷ rest) left i x e = absurd (omega (arith, e))
-
--- what is behind the first k, as a slice has it
-pub behind : (k : ℕ) (l : List ℕ) → take (length l - k) (drop k l) ≡ drop k l
-behind k l = take_all (length l - k) (drop k l) (omega (arith, length-drop k l))

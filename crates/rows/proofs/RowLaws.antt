@@ -26,22 +26,11 @@ get_or_sum (s ∷ src) (d ∷ dst) zero h k = refl
 get_or_sum (s ∷ src) (d ∷ dst) (suc i) h k = get_or_sum src dst i (le_of_suc-le-suc h) (le_of_suc-le-suc k)
 
 module _ (𝓕 : FieldLaws) where
-  pub length_added : (q : ℕ) (src dst : List ℕ) → length (add_multiple 𝓕 q src dst) ≡ length dst
-  unfolding add_multiple
-  length_added q [] dst = refl
-  length_added q (s ∷ src) [] = refl
-  length_added q (s ∷ src) (d ∷ dst) = ap suc (length_added q src dst)
-
   pub added_zero : (src dst : List ℕ) → add_multiple 𝓕 0 src dst ≡ dst
   unfolding add_multiple
   added_zero [] dst = refl
   added_zero (s ∷ src) [] = refl
   added_zero (s ∷ src) (d ∷ dst) = λ i. (ap (λ (x : ℕ). d ⊕ x) (zero_mul 𝓕 s) ∙ ⊕_zero d) i ∷ added_zero src dst i
-
-  pub length_scaled : (q : ℕ) (xs : List ℕ) → length (scale_row 𝓕 q xs) ≡ length xs
-  unfolding scale_row
-  length_scaled q [] = refl
-  length_scaled q (x ∷ xs) = ap suc (length_scaled q xs)
 
   pub scaled_zero : (xs : List ℕ) → replicate (length xs) 0 ≡ scale_row 𝓕 0 xs
   unfolding scale_row

@@ -3,7 +3,8 @@ use Rattle.std.proofs.Common.{◌≤◌, List, ℕ, ◌+◌, ◌*◌, length, ge
 use Rattle.std.specs.Slice.Iter.{chunks_rest}
 use Rattle.galois.specs.Gf.{◌⊕◌}
 use Rattle.rows.specs.Chosen.{sum_chosen}
-use Rattle.rows.proofs.ChosenLaws.{fits, some_added, none_left, behind}
+use Rattle.std.proofs.lemmas.List.{take_rest}
+use Rattle.rows.proofs.ChosenLaws.{fits, some_added, none_left}
 use Rattle.rows.proofs.CombineLaws.{chosen_all}
 use Rattle.rows.proofs.combining.add_chosen.Goals as goal
 
@@ -14,7 +15,7 @@ loop-some-preserved c =
     let some = c.in-Some.some.now in
     let rest = chunks_rest c.next.new.self in
     let steps = c.in-Some.ensures.steps in
-    let tail = behind (length some * width) l.left.now in
+    let tail = take_rest l.left.now (length some * width) in
     let room : length some * width + length rest * width ≤ length l.left.now = fits width some rest l.left.now steps.1.0 l.invariant.fits in
     record {
       size = steps.0 ∙ l.invariant.size;
