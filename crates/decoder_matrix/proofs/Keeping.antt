@@ -8,12 +8,13 @@ use native.Mathlib.Nat.{add-zero, le_of_eq}
 use native.Mathlib.Numerals.{add-one}
 use native.Mathlib.Omega.{arith}
 use lib.ListN.{length, get_or, take, drop, set}
-use lib.Seq.{take_all, length-take-le, take-suc, take-suc-set, drop-set-lt, drop-drop, get_or-drop}
+use lib.Seq.{take_all, length-take-le, take-suc, take-suc-set, drop-set-lt, get_or-drop}
 use Rattle.linear.specs.Choice.{pick}
 use Rattle.linear.specs.Rows.{all_zero, drop_empty}
 use Rattle.linear.specs.Buffer.{rows_of, Ruled}
 use Rattle.linear.proofs.Buffer.{length_rows_of, rows_of_take}
 use Rattle.linear.proofs.Drop.{drop_empty_append}
+use Rattle.linear.proofs.Flat.{further}
 
 -- one row more
 module _ (k : ℕ) (rows : List (List ℕ)) (j : ℕ) (h : j < length rows) where
@@ -33,9 +34,6 @@ pub record Keeping (f n k j kept : ℕ) (old now : List ℕ) : Type 0 where
   pub later : drop j (rows_of f n now) ≡ drop j (rows_of f n old)
   pub rest : drop (n * f) now ≡ drop (n * f) old
 
-next_later : (a b : List (List ℕ)) (j : ℕ) → drop j a ≡ drop j b → drop (j + 1) a ≡ drop (j + 1) b
-next_later a b j e = sym (drop-drop 1 j a) ∙ ap (drop 1) e ∙ drop-drop 1 j b
-
 -- a turn of the loop
 module _ {f n k j kept : ℕ} {old now : List ℕ} (t : Keeping f n k j kept old now) (h : j < n) where
   abbrev rows₀ : List (List ℕ)
@@ -54,7 +52,7 @@ module _ {f n k j kept : ℕ} {old now : List ℕ} (t : Keeping f n k j kept old
   turn_drops e = record {
     few = omega (arith, t.few);
     front = t.front ∙ sym (dropped k rows₀ j below e);
-    later = next_later (rows_of f n now) rows₀ j t.later;
+    later = further j (j + 1) (rows_of f n now) rows₀ (omega arith) t.later;
     rest = t.rest;
   }
 
@@ -68,7 +66,7 @@ module _ {f n k j kept : ℕ} {old now : List ℕ} (t : Keeping f n k j kept old
         front =
             ap (λ (i : ℕ). take i (rows_of f n new)) (add-one kept) ∙ ap (take (suc kept)) u.rows ∙ take-suc-set (rows_of f n now) kept r inside
             ∙ (λ i. t.front i ++ (found_row i ∷ [])) ∙ sym (kept_row k rows₀ j below e);
-        later = ap (drop (j + 1)) u.rows ∙ drop-set-lt (j + 1) (rows_of f n now) kept r (omega (arith, t.few)) ∙ next_later (rows_of f n now) rows₀ j t.later;
+        later = ap (drop (j + 1)) u.rows ∙ drop-set-lt (j + 1) (rows_of f n now) kept r (omega (arith, t.few)) ∙ further j (j + 1) (rows_of f n now) rows₀ (omega arith) t.later;
         rest = u.rest ∙ t.rest;
       }
 

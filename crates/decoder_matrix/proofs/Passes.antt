@@ -18,7 +18,7 @@ use Rattle.linear.specs.Buffer.{rows_of, row_at, Ruled}
 use Rattle.linear.proofs.Buffer.{put, put_same, length_part, row_end, length_rows_of, row_at_lem, put_row_lem}
 use Rattle.linear.proofs.Pivot.{Pivot, pivot_spec}
 use Rattle.linear.proofs.Steps.{swap_first}
-use Rattle.rows.proofs.RowLaws.{length_scaled}
+use Rattle.linear.proofs.Sums.{length_scale}
 use Rattle.decoder_matrix.specs.Steps.{clear_range}
 use Rattle.decoder_matrix.proofs.Range.{range_keeps, range_above}
 
@@ -127,7 +127,7 @@ module _ (𝓕 : FieldLaws) where
       let row : List ℕ = scale_row 𝓕 v (row_at f i mid) in
       let held : i < length rows = rw length_rows_of h in
       let same : row_at f i mid ≡ get_or rows i [] = sym (row_at_lem f n i mid h) ∙ ap (λ (l : List (List ℕ)). get_or l i []) u.rows ∙ range_keeps 𝓕 i rows held in
-      let size : length row ≡ f = length_scaled 𝓕 v (row_at f i mid) ∙ length_part (i * f) f mid (omega (arith, row_end f h)) in
+      let size : length row ≡ f = length_scale 𝓕 v (row_at f i mid) ∙ length_part (i * f) f mid (omega (arith, row_end f h)) in
       let s : Ruled f n mid (put (i * f) k part mid) (set (rows_of f n mid) i row) =
       put_row_lem f n mid i row h w size (put_same (i * f) mid g (ep ∙ ap (λ (x : ℕ). scale_row 𝓕 v (take x (drop (i * f) mid))) g)) in
       record {

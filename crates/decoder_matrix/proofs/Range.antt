@@ -15,7 +15,8 @@ use Rattle.linear.specs.Rows.{entry, add_multiple, scale_row, clear_by, clear_be
 use Rattle.linear.specs.Buffer.{rows_of, row_at, put_row, Ruled}
 use Rattle.linear.proofs.Buffer.{length_rows_of, row_at_lem, length_row, entry_at, put_row_lem}
 use Rattle.rows.proofs.Turned.{Turned, starts, ends, finds, keeps, turns, skips}
-use Rattle.rows.proofs.RowLaws.{length_added, added_zero}
+use Rattle.linear.proofs.Sums.{length_add}
+use Rattle.rows.proofs.RowLaws.{added_zero}
 use Rattle.decoder_matrix.specs.Steps.{clear_range}
 
 -- ---- the rows from a up to b mapped
@@ -161,7 +162,7 @@ module _ (𝓕 : FieldLaws) (f n from to i : ℕ) (old : List ℕ) (order : from
         let kept : row_at f i now ≡ pivot =
         sym (row_at_lem f n i now hn) ∙ keeps i [] t.turned (get_or_outside (clear_by 𝓕 i pivot) from to i rows₀ order out) in
         let row : List ℕ = add_multiple 𝓕 q (row_at f i now) (row_at f j now) in
-        let size : length row ≡ f = length_added 𝓕 q (row_at f i now) (row_at f j now) ∙ ap length (sym (row_at_lem f n j now (omega arith))) ∙ length_row f n j now (omega arith) w in
+        let size : length row ≡ f = length_add 𝓕 q (row_at f i now) (row_at f j now) ∙ ap length (sym (row_at_lem f n j now (omega arith))) ∙ length_row f n j now (omega arith) w in
         let is : row ≡ get_or new j [] =
         (λ x. add_multiple 𝓕 ((eq ∙ (λ y. 𝓕.mul (byte h y) (ev y))) x) (kept x) (here x)) ∙ sym wanted in
         let u : Ruled f n now next (set (rows_of f n now) j row) = put_row_lem f n now j row (omega arith) w size en in
