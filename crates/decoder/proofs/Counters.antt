@@ -58,12 +58,16 @@ new_sound {L} {k} {elements} {last} {d} h =
 
 -- ---- rows and taken after a piece
 
+pub held_count : (d : Decoder) (elements : List ℕ) → length (held_rows d elements) ≡ rows_in d
+unfolding held_rows
+held_count d elements = length_rows_of (f_of d) (rows_in d) elements
+
 module _ (𝓕 : FieldLaws) (d : Decoder) (elements full : List ℕ) where
   pub rows_grow : length (rows_after 𝓕 d elements full) ≤ rows_in d + 1
-  unfolding rows_after held_rows take_piece
+  unfolding rows_after take_piece
   rows_grow =
       let shorter = reduce_le 𝓕 (k_of d) (held_rows d elements ++ (full ∷ [])) in
-      omega (arith, shorter, length-append (held_rows d elements) (full ∷ []), length_rows_of (f_of d) (rows_in d) elements)
+      omega (arith, shorter, length-append (held_rows d elements) (full ∷ []), held_count d elements)
 
   pub after_sound : take_refusal d (length elements) (length full) ≡ Ok tt → sound (after 𝓕 d elements full) ≡ true
   unfolding after
