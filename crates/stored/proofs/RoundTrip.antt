@@ -17,7 +17,7 @@ use Rattle.linear.specs.All.{Bytes}
 use Rattle.linear.specs.Rows.{all_zero}
 use Rattle.linear.specs.Buffer.{rows_of, flat, holding}
 use Rattle.linear.proofs.All.{bytes_at}
-use Rattle.linear.proofs.Buffer.{length_rows_of, sizes_of as widths_of}
+use Rattle.linear.proofs.Buffer.{sizes_of as widths_of}
 use Rattle.linear.proofs.Flat.{rows_flat}
 use Rattle.block.specs.Sizes.{over_limit, sized}
 use Rattle.linear.proofs.Choice.{or_false}
@@ -29,6 +29,7 @@ use Rattle.decoder.specs.Records.{k_of, l_of, f_of, rows_in, taken_by, sound, ba
 use Rattle.decoder.specs.Entries.{decoder_of}
 use Rattle.stored.specs.Forms.{stored_kind, matrix_size, form_size, stored_geometry, form_of, form_rows, form_taken, form_matrix, form_decoder}
 use Rattle.stored.specs.Entries.{Saving, bad_form, Loading}
+use Rattle.decoder.proofs.Counters.{held_count}
 use Rattle.decoder.proofs.Sound.{Holds, holds}
 use Rattle.stored.proofs.Numbers.{inside}
 use Rattle.stored.proofs.Forms.{kind_is, kind_of_lem, sizes_are, sizes_of, whole_matrix, held_bytes, held_room, length_matrix, length_form, matrix_long}
@@ -101,15 +102,11 @@ module _ (g : Geometry) (d : Decoder) (elements behind : List ℕ) (k_is : k_of 
   whole : form_size g ≤ length form
   whole = simp length-append (omega (arith, length_form g d elements k_is l_is h.numbers.rows_pieces h.room))
 
-  held_count : length (held_rows d elements) ≡ rows_in d
-  unfolding held_rows
-  held_count = length_rows_of (f_of d) (rows_in d) elements
-
   -- the matrix of the form, at the front of any buffer
   filled : (matrix : List ℕ) → form_matrix g form ++ drop (matrix_size g) matrix ≡ holding (k_of d) (f_of d) (held_rows d elements) matrix
   filled matrix =
       let size : (k_of d - length (held_rows d elements)) * f_of d ≡ matrix_size g - rows_in d * body_of g =
-      ap (λ (c : ℕ). (k_of d - c) * f_of d) held_count ∙ mul_comm (k_of d - rows_in d) (f_of d) ∙ mul-sub (f_of d) (k_of d) (rows_in d)
+      ap (λ (c : ℕ). (k_of d - c) * f_of d) (held_count d elements) ∙ mul_comm (k_of d - rows_in d) (f_of d) ∙ mul-sub (f_of d) (k_of d) (rows_in d)
       ∙ (λ i. mul_comm (f_of d) (k_of d) i - mul_comm (f_of d) (rows_in d) i) ∙ (λ i. k_is i * (k_is i + l_is i) - rows_in d * (k_is i + l_is i)) in
       ap (λ (l : List ℕ). l ++ drop (matrix_size g) matrix) matrix_is ∙ append_assoc (flat (held_rows d elements)) rest (drop (matrix_size g) matrix)
       ∙ (λ i. flat (held_rows d elements) ++ (replicate (sym size i) 0 ++ drop (sym (whole_matrix g d elements k_is l_is) i) matrix))
@@ -117,7 +114,7 @@ module _ (g : Geometry) (d : Decoder) (elements behind : List ℕ) (k_is : k_of 
   held_again : (matrix : List ℕ) → held_rows d (holding (k_of d) (f_of d) (held_rows d elements) matrix) ≡ held_rows d elements
   unfolding held_rows
   held_again matrix =
-      ap (λ (c : ℕ). rows_of (f_of d) c (holding (k_of d) (f_of d) (held_rows d elements) matrix)) (sym held_count)
+      ap (λ (c : ℕ). rows_of (f_of d) c (holding (k_of d) (f_of d) (held_rows d elements) matrix)) (sym (held_count d elements))
       ∙ rows_flat (f_of d) (held_rows d elements) _ (widths_of (f_of d) (rows_in d) elements (omega (arith, h.room, mul-le-mul_right (f_of d) h.numbers.rows_pieces)))
 
 module _ {d : Decoder} {elements out out' : List ℕ} {n : ℕ} (s : Saving d elements out (Ok n) out') where
