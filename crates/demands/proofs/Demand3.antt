@@ -18,7 +18,6 @@ use Rattle.answers.specs.declared.RLNCError.TheVariants.{InvalidDecodedDataForma
 use Rattle.galois.specs.FieldLaws.{FieldLaws}
 use Rattle.linear.specs.Blocks.{Block, Agrees, Unique}
 use Rattle.linear.specs.Buffer.{rows_of, flat}
-use Rattle.linear.proofs.Buffer.{length_rows_of}
 use Rattle.linear.proofs.RowRules.{demand_3, demand_3_recovery}
 use Rattle.block.specs.declared.BrokenPadding.{BrokenPadding}
 use Rattle.block.specs.Refusal.{if_ok, answered}
@@ -31,6 +30,7 @@ use Rattle.decoder.specs.Answers.{complete_values, recovered_values}
 use Rattle.decoder.specs.Entries.{completed, block_in, recover_refusal, Recovery}
 use Rattle.demands.specs.History.{History}
 use Rattle.demands.specs.Demand3.{Demand3, Counters}
+use Rattle.decoder.proofs.Counters.{held_count}
 use Rattle.decoder.proofs.Sound.{shown}
 use Rattle.demands.proofs.History.{Kept, kept}
 
@@ -48,10 +48,6 @@ module _ {𝓕 : FieldLaws} {k L : ℕ} {d : Decoder} {elements : List ℕ} {pie
   fine : sound d ≡ true
   fine = shown d it.numbers
 
-  held_count : length (held_rows d elements) ≡ rows_in d
-  unfolding held_rows
-  held_count = length_rows_of (f_of d) (rows_in d) elements
-
   pub told : completed d ≡ Ok (eqb (rows_in d) (k_of d))
   unfolding completed
   told = rw fine
@@ -59,8 +55,8 @@ module _ {𝓕 : FieldLaws} {k L : ℕ} {d : Decoder} {elements : List ℕ} {pie
   -- complete exactly with k rows
   pub complete_rows : (completed d ≡ Ok true) ↔ (length (held_rows d elements) ≡ k)
   complete_rows = (
-    λ e. held_count ∙ eqb-true (rows_in d) (k_of d) (same_test (sym told ∙ e)) ∙ it.same_k,
-    λ e. told ∙ ap Ok (eq-eqb (rows_in d) (k_of d) (sym held_count ∙ e ∙ sym it.same_k)),
+    λ e. held_count d elements ∙ eqb-true (rows_in d) (k_of d) (same_test (sym told ∙ e)) ∙ it.same_k,
+    λ e. told ∙ ap Ok (eq-eqb (rows_in d) (k_of d) (sym (held_count d elements) ∙ e ∙ sym it.same_k)),
   )
     where
       same_test : ◌≡◌ {A = Result Bool RLNCError} (Ok (eqb (rows_in d) (k_of d))) (Ok true) → eqb (rows_in d) (k_of d) ≡ true
@@ -78,7 +74,7 @@ module _ {𝓕 : FieldLaws} {k L : ℕ} {d : Decoder} {elements : List ℕ} {pie
       pub the_block : block_in d elements ≡ flat block
       unfolding block_in held_rows
       the_block =
-          let all : rows_in d ≡ k_of d = sym held_count ∙ complete_rows.0 c ∙ sym it.same_k in
+          let all : rows_in d ≡ k_of d = sym (held_count d elements) ∙ complete_rows.0 c ∙ sym it.same_k in
           ap (λ (n : ℕ). flat (map (drop (k_of d)) (rows_of (f_of d) n elements))) (sym all)
           ∙ ap (λ (n : ℕ). flat (map (drop n) (held_rows d elements))) it.same_k
           ∙ ap flat (demand_3_recovery 𝓕 k L pieces (held_rows d elements) it.held block b a (complete_rows.0 c))
@@ -86,7 +82,7 @@ module _ {𝓕 : FieldLaws} {k L : ℕ} {d : Decoder} {elements : List ℕ} {pie
       pub recovers : (M room : ℕ) → k * L ≤ room → recover_refusal M d elements room ≡ answer_of (reading M (flat block))
       unfolding recover_refusal bad_state
       recovers M room w =
-          let all : rows_in d ≡ k_of d = sym held_count ∙ complete_rows.0 c ∙ sym it.same_k in
+          let all : rows_in d ≡ k_of d = sym (held_count d elements) ∙ complete_rows.0 c ∙ sym it.same_k in
           let wide : k_of d * l_of d ≤ room = rw (it.same_k, it.same_l) w in
           rw (fine, le-ltb (length elements) (k_of d * f_of d) it.room, eq-eqb (rows_in d) (k_of d) all, le-ltb room (k_of d * l_of d) wide, the_block)
 

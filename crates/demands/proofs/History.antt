@@ -14,7 +14,7 @@ use Rattle.linear.specs.All.{All, Bytes}
 use Rattle.linear.specs.Rows.{take_piece}
 use Rattle.linear.specs.Engine.{Taken, fresh, took}
 use Rattle.linear.specs.Buffer.{rows_of, holding}
-use Rattle.linear.proofs.Buffer.{sizes_of, length_rows_of}
+use Rattle.linear.proofs.Buffer.{sizes_of}
 use Rattle.linear.proofs.Flat.{rows_flat, length_flat}
 use Rattle.linear.proofs.Sizes.{take_piece_sizes}
 use Rattle.decoder.specs.declared.Decoder.{Decoder}
@@ -23,7 +23,7 @@ use Rattle.decoder.specs.Entries.{NewDecoder, take_refusal, rows_after, after}
 use Rattle.demands.specs.History.{History, made, useful, not_useful, resumed, refused}
 use Rattle.decoder.proofs.Sound.{Sound, told}
 use Rattle.decoder.proofs.Accepted.{Accepted, accepted}
-use Rattle.decoder.proofs.Counters.{new_sound, after_sound}
+use Rattle.decoder.proofs.Counters.{held_count, new_sound, after_sound}
 use Rattle.stored.proofs.Alike.{loaded_alike}
 use Rattle.demands.proofs.Outcomes.{made_of, Took, took as was_taken, unchanged}
 
@@ -61,10 +61,6 @@ module _ (𝓕 : FieldLaws) (d : Decoder) (elements full : List ℕ) (ok : take_
   abbrev rows' : List (List ℕ)
   rows' = rows_after 𝓕 d elements full
 
-  held_count : length (held_rows d elements) ≡ rows_in d
-  unfolding held_rows
-  held_count = length_rows_of (f_of d) (rows_in d) elements
-
   widths : All (λ r. length r ≡ f_of d) rows'
   unfolding rows_after held_rows
   widths =
@@ -89,7 +85,7 @@ module _ (𝓕 : FieldLaws) (d : Decoder) (elements full : List ℕ) (ok : take_
   module _ (pieces : List (List ℕ)) (b : Bytes full) (t : Taken (take_piece 𝓕 (k_of d)) (k_of d) (l_of d) pieces (held_rows d elements)) where
     taken_after : Taken (take_piece 𝓕 (k_of d)) (k_of d) (l_of d) (full ∷ pieces) rows'
     unfolding rows_after
-    taken_after = took {rows = held_rows d elements} full (record { size = o.whole; bytes = b }) (λ e. omega (arith, e, held_count, o.missing)) t
+    taken_after = took {rows = held_rows d elements} full (record { size = o.whole; bytes = b }) (λ e. omega (arith, e, held_count d elements, o.missing)) t
 
     kept_after : taken_by d ≡ length pieces
         → Kept 𝓕 (k_of d) (l_of d) (after 𝓕 d elements full) (holding (k_of d) (f_of d) rows' elements) (full ∷ pieces)
