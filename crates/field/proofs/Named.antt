@@ -1,14 +1,10 @@
--- A field of one case is that case, and its operations are those of FIPS 197's polynomial.
+-- The field that the contracts name has the operations of FIPS 197's polynomial.
 -- Assumes nothing.
 use mathlib.Core.Path.{◌≡◌, refl}
 use Rattle.galois.specs.Gf.{mul, inv}
 use Rattle.gf256.specs.Fips197.{polynomial}
-use Rattle.field.specs.declared.Field.{Field}
 use Rattle.field.specs.declared.Field.TheVariants.{Fips197}
 use Rattle.field.specs.FieldOf.{field_of}
-
-pub named : (f : Field) → Fips197 ≡ f
-named Fips197 = refl
 
 -- what a reader of the contracts has to know of `field_of`
 pub fips_mul : (field_of Fips197).mul ≡ mul polynomial
