@@ -64,6 +64,7 @@ impl Judged for Decoder {
             && taken <= TAKEN_LIMIT
     }
 
+    // `holds` is public and stays beside it.
     fn fits(self, n: usize) -> bool {
         self.holds(n)
     }
