@@ -18,7 +18,7 @@ use Rattle.linear.proofs.Steps.{reduce_le}
 use Rattle.linear.proofs.Subspace.{bytes_subspace, reduce_in, reduce_out}
 use Rattle.linear.proofs.Diagonal.{reduce_identity}
 use Rattle.linear.proofs.Linear.{fits_subspace}
-use Rattle.linear.proofs.Engine.{complete_unique, recovered}
+use Rattle.linear.proofs.Engine.{step_agrees, step_agreed, complete_unique, recovered}
 
 -- what the row rules know of their rows
 pub record HeldRows (k L : ℕ) (rows : List (List ℕ)) : Type 0 where
@@ -71,6 +71,15 @@ module _ (𝓕 : FieldLaws) (k L : ℕ) where
     into = λ 𝓢 rows piece h g a p. reduce_in 𝓕 𝓢 k (rows ++ (piece ∷ [])) (all_append a (more p none));
     back = λ 𝓢 f rows piece h p g. back rows piece h p 𝓢 f g;
   }
+
+  -- a piece taken, and the rows before it, agree with the blocks that the rows after it agree with, if with one
+  module _ (rows : List (List ℕ)) (piece : List ℕ) (h : HeldRows k L rows) (p : Piece k L piece)
+      (block : List (List ℕ)) (a : Agrees 𝓕 k L (piece ∷ rows) block) where
+    pub take_piece_agrees : Agrees 𝓕 k L (take_piece 𝓕 k rows piece) block
+    take_piece_agrees = step_agrees 𝓕 row_rules_engine rows piece h h.fits p block a
+
+    pub take_piece_agreed : (other : List (List ℕ)) → Agrees 𝓕 k L (take_piece 𝓕 k rows piece) other → Agrees 𝓕 k L (piece ∷ rows) other
+    take_piece_agreed other o = step_agreed 𝓕 row_rules_engine rows piece h h.fits p block other a o
 
   module _ (pieces rows : List (List ℕ)) (t : Taken (take_piece 𝓕 k) k L pieces rows)
       (block : List (List ℕ)) (b : Block k L block) (a : Agrees 𝓕 k L pieces block) where
