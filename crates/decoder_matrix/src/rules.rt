@@ -72,11 +72,13 @@ impl Held<'_> {
         ensures { Applied (clear_range (field_of f) rows.start rows.end i) self.old self.new }
     {
         let cols = self.matrix.cols;
+        // A local, so that the loop doesn't read from `self` at each row where the buffer lies.
+        let elements = &mut *self.elements;
         let from = i * cols;
-        let inverse = f.inv(self.elements[from + i]).unwrap();
+        let inverse = f.inv(elements[from + i]).unwrap();
         for j in rows {
             let to = j * cols;
-            let x = self.elements[to + i];
+            let x = elements[to + i];
             if x == 0 {
                 continue;
             }
@@ -86,7 +88,7 @@ impl Held<'_> {
                 len: cols,
             };
             let q = f.mul(x, inverse);
-            rows::mul_part_by_scalar_then_add_into_part(f, self.elements, parts, q).unwrap();
+            rows::mul_part_by_scalar_then_add_into_part(f, elements, parts, q).unwrap();
         }
     }
 

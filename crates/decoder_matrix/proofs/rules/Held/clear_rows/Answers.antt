@@ -34,8 +34,6 @@ loop-j-init c =
     let h = c.args.self.now in
     rw c.into_iter-j-iterator.ensures.into_iter_gives
     (record {
-      matrix = refl;
-      lent = refl;
       from = omega arith;
       inside = c.requires.order;
       to = refl;
@@ -50,8 +48,6 @@ loop-j-preserved-then-x-eq0 c =
     let start : c.loop-j.j-iterator.start ≡ c.in-Some.j = omega (arith, s) in
     let next : c.next.new.self.start ≡ c.in-Some.j + 1 = omega (arith, s) in
     record {
-      matrix = v.matrix;
-      lent = v.lent;
       from = omega (arith, s, v);
       inside = omega (arith, s, v);
       to = s.0 ∙ v.to;
@@ -67,10 +63,11 @@ unwrap-requires c =
     let h = c.args.self.now in
     let v = c.loop-j.invariant in
     let s = c.in-Some.ensures.steps in
-    let fits : sizes_fit h.matrix (length c.loop-j.self.elements.now) ≡ true = rw v.matrix at c.loop-j.self.fits in
+    let size : length c.loop-j.elements ≡ length h.elements.now = omega arith in
+    let fits : sizes_fit h.matrix (length c.loop-j.elements) ≡ true = rw size h.fits in
     rw (
       c.mul_part_by_scalar_then_add_into_part.ensures.answer,
-      lies _ _ (beside h.matrix (length c.loop-j.self.elements.now) c.args.i c.in-Some.j fits c.requires.row (omega (arith, s, v)) (omega (arith, s, v)) c.requires.held c.requires.outside),
+      lies _ _ (beside h.matrix (length c.loop-j.elements) c.args.i c.in-Some.j fits c.requires.row (omega (arith, s, v)) (omega (arith, s, v)) c.requires.held c.requires.outside),
     ) refl
 
 pub loop-j-preserved : goal.loop-j-preserved
@@ -80,12 +77,11 @@ loop-j-preserved c =
     let s = c.in-Some.ensures.steps in
     let start : c.loop-j.j-iterator.start ≡ c.in-Some.j = omega (arith, s) in
     let next : c.next.new.self.start ≡ c.in-Some.j + 1 = omega (arith, s) in
-    let fits : sizes_fit h.matrix (length c.loop-j.self.elements.now) ≡ true = rw v.matrix at c.loop-j.self.fits in
+    let size : length c.loop-j.elements ≡ length h.elements.now = omega arith in
+    let fits : sizes_fit h.matrix (length c.loop-j.elements) ≡ true = rw size h.fits in
     let byte = pivot_byte h.matrix h.elements.now h.fits c.args.i c.requires.row in
     let inverse = inverse_byte (field_of c.args.f).inv _ _ (sym c.inv.ensures ∙ c.unwrap-inverse.ensures) ∙ ap (field_of c.args.f).inv byte in
     record {
-      matrix = v.matrix;
-      lent = v.lent;
       from = omega (arith, s, v);
       inside = omega (arith, s, v);
       to = s.0 ∙ v.to;
@@ -94,9 +90,9 @@ loop-j-preserved c =
           (turn_adds (field_of c.args.f) h.matrix.cols h.matrix.rows c.args.rows.start c.args.rows.end c.args.i h.elements.now c.requires.order c.requires.held
           c.in-Some.j (omega (arith, v)) (omega (arith, s, v)) (rw start at v.rowed) c.requires.row
           (column_in h.matrix (length h.elements.now) h.fits c.args.i c.requires.row) c.requires.outside
-          (sized h.matrix (length c.loop-j.self.elements.now) fits).held inverse c.mul-q.ensures
+          (sized h.matrix (length c.loop-j.elements) fits).held inverse c.mul-q.ensures
           (part_added c.mul_part_by_scalar_then_add_into_part.ensures
-          (beside h.matrix (length c.loop-j.self.elements.now) c.args.i c.in-Some.j fits c.requires.row (omega (arith, s, v)) (omega (arith, s, v)) c.requires.held c.requires.outside)));
+          (beside h.matrix (length c.loop-j.elements) c.args.i c.in-Some.j fits c.requires.row (omega (arith, s, v)) (omega (arith, s, v)) c.requires.held c.requires.outside)));
     }
 
 pub returns : goal.returns
@@ -106,8 +102,8 @@ returns c =
     let s = c.in-None.ensures.steps in
     let end : c.loop-j.j-iterator.start ≡ c.args.rows.end = omega (arith, s, v) in
     record {
-      matrix = v.matrix;
-      lent = v.lent;
+      matrix = refl;
+      lent = refl;
       ruled =
           range_ends (field_of c.args.f) h.matrix.cols h.matrix.rows c.args.rows.start c.args.rows.end c.args.i h.elements.now c.requires.order c.requires.held (rw end at v.rowed);
     }

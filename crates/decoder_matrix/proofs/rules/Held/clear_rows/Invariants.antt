@@ -7,12 +7,10 @@ use Rattle.decoder_matrix.proofs.rules.Held.clear_rows.Given as goal
 
 abbrev pub invariant-loop-j : goal.invariant-loop-j
 invariant-loop-j l = record {
-  matrix : l.self.matrix ≡ l.initial.self.matrix;
-  lent : l.self.elements.ghost_name ≡ l.initial.self.elements.ghost_name;
   from : l.fn.rows.start ≤ l.j-iterator.start;
   inside : l.j-iterator.start ≤ l.j-iterator.end;
   to : l.j-iterator.end ≡ l.fn.rows.end;
   rowed :
-      Rowed l.initial.self.matrix.cols l.initial.self.matrix.rows l.j-iterator.start
-      (clear_range (field_of l.f) l.fn.rows.start l.fn.rows.end l.i (rows_of_held l.initial.self)) l.initial.self.elements.now l.self.elements.now;
+      Rowed l.fn.self.matrix.cols l.fn.self.matrix.rows l.j-iterator.start
+      (clear_range (field_of l.f) l.fn.rows.start l.fn.rows.end l.i (rows_of_held l.fn.self)) l.fn.self.elements.now l.elements;
 }
