@@ -4,3 +4,4 @@ pub mod Reading
 pub mod Bounds
 pub mod Chosen
 pub mod RowBytes
+pub mod Answered

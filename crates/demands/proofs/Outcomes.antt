@@ -16,6 +16,7 @@ use Rattle.galois.specs.FieldLaws.{FieldLaws}
 use Rattle.linear.specs.Choice.{pick}
 use Rattle.linear.specs.Buffer.{holding}
 use Rattle.block.specs.Refusal.{if_ok, answered}
+use Rattle.block.proofs.Answered.{with_value}
 use Rattle.decoder.specs.declared.Decoder.{Decoder}
 use Rattle.decoder.specs.declared.Taken.{Taken}
 use Rattle.decoder.specs.declared.Taken.TheVariants.{Useful, NotUseful}
@@ -24,12 +25,7 @@ use Rattle.decoder.specs.Entries.{decoder_of, new_refusal, NewDecoder, take_refu
 
 pub made_of : (L k : ℕ) (buffer elements : List ℕ) (d : Decoder) → NewDecoder L k buffer (Ok d) elements
     → (d ≡ decoder_of k L 0 0) × (elements ≡ replicate (k * (k + L)) 0 ++ drop (k * (k + L)) buffer)
-made_of L k buffer elements d n = go (new_refusal L k (length buffer)) n.result n.left
-  where
-    go : (a : Answer) → Ok d ≡ answered a (decoder_of k L 0 0) → elements ≡ if_ok a (replicate (k * (k + L)) 0 ++ drop (k * (k + L)) buffer) buffer
-        → (d ≡ decoder_of k L 0 0) × (elements ≡ replicate (k * (k + L)) 0 ++ drop (k * (k + L)) buffer)
-    go (Ok z) p q = ((cc), q)
-    go (Err e) p q = ((cc), cc)
+made_of L k buffer elements d n = let v = with_value (new_refusal L k (length buffer)) n.result in (v.1, rw v.0 at n.left)
 
 -- the piece was taken
 pub record Took (𝓕 : FieldLaws) (d : Decoder) (elements full : List ℕ) (d' : Decoder) (elements' : List ℕ) : Type 0 where

@@ -21,7 +21,7 @@ use Rattle.listing.specs.declared.join.Step.{Step}
 use Rattle.listing.specs.Lines.{header_line}
 use Rattle.listing.specs.Joining.{joined_after, elements_after, line_for}
 use Rattle.listing.specs.Steps.{line_room, step_refusal, stepped, Stepped}
-use Rattle.listing.proofs.Answered.{with_value, with_error}
+use Rattle.block.proofs.Answered.{with_value, with_error}
 use Rattle.joiner.specs.Machine.{text_room, State, state, joins, over}
 use Rattle.joiner.specs.Parts.{Front, Begun}
 

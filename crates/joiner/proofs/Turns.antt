@@ -26,7 +26,7 @@ use Rattle.listing.specs.Listing.{block_room}
 use Rattle.listing.specs.Steps.{line_room}
 use Rattle.listing.proofs.Short.{piece_short}
 use Rattle.block.proofs.Chosen.{passes}
-use Rattle.listing.proofs.Answered.{with_value}
+use Rattle.block.proofs.Answered.{with_value}
 use Rattle.joiner.specs.declared.Joiner.{Joiner}
 use Rattle.joiner.specs.declared.Fed.{Fed}
 use Rattle.joiner.specs.declared.Closing.{Closing}

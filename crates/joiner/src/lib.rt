@@ -33,6 +33,8 @@ pub enum Ending {
     Stopped,
 }
 
+// The matrix, the block and the text are lent at each call: there is no heap to hold them. They are parameters and no struct, since two slices behind
+// one `&mut` struct are not covered by the borrow checker.
 #[derive(Clone, Copy, PartialEq, Eq, Debug)]
 pub struct Joiner {
     pub reader: Reader,
@@ -40,7 +42,8 @@ pub struct Joiner {
     pub ending: Ending,
 }
 
-// The machine after a turn, and how many bytes of text there are: of what came first, and behind it of what follows, the last lines among them.
+// The machine after a turn, and how many bytes of text there are: of what came first, and behind it of what follows, the last lines among them. Two
+// lengths are no plainer as slices: both texts lie in the one buffer that the caller lent, and `Ending` outlives the turn.
 #[derive(Clone, Copy, PartialEq, Eq, Debug)]
 pub struct Fed {
     pub joiner: Joiner,

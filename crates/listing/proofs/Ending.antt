@@ -23,7 +23,7 @@ use Rattle.listing.specs.Lines.{end_line, data_line}
 use Rattle.listing.specs.Puts.{Lined}
 use Rattle.listing.specs.Listing.{end_answer, data_of, end_lines}
 use Rattle.listing.specs.Steps.{line_room, end_refusal, ended, Recovered, Finished}
-use Rattle.listing.proofs.Answered.{with_value, with_error}
+use Rattle.block.proofs.Answered.{with_value, with_error}
 use Rattle.listing.proofs.Counting.{put_size, put_text}
 use Rattle.listing.proofs.Hex.{length_data_line}
 use Rattle.listing.proofs.Short.{end_short}

@@ -1,4 +1,3 @@
-pub mod Answered
 pub mod Counting
 pub mod Decimal
 pub mod Ending

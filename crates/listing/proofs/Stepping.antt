@@ -17,7 +17,7 @@ use Rattle.listing.specs.declared.join.Joining.{Joining}
 use Rattle.listing.specs.declared.join.Step.{Step}
 use Rattle.listing.specs.Joining.{decoder_for, matrix_for, joined, line_of, answer_to, decoder_after, elements_after, joined_after, line_for}
 use Rattle.listing.specs.Steps.{line_room, start_refusal, step_refusal, Started, Took, stepped, Counted, Stepped}
-use Rattle.listing.proofs.Answered.{with_value, with_error}
+use Rattle.block.proofs.Answered.{with_value, with_error}
 
 module _ {𝓕 : FieldLaws} {j : Joining} {g : Geometry} {full elements out : List ℕ} where
   pub step_refused : {e : RLNCError} → step_refusal j g (length elements) (length out) ≡ Err e → Stepped 𝓕 j g full elements out (Err e) elements out

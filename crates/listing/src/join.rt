@@ -11,7 +11,8 @@ use decoder::Decoder;
 use field::Field;
 use stream::Geometry;
 
-// The decoder, once a piece has come; how many pieces have come, and how many of them were answered 8.
+// The decoder, once a piece has come; how many pieces have come, and how many of them were answered 8. The matrix is lent at each call: there is no
+// heap to hold it.
 #[derive(Clone, Copy, PartialEq, Eq, Debug)]
 pub struct Joining {
     pub held: Option<Decoder>,
@@ -88,8 +89,14 @@ impl Joining {
         let pieces = self.pieces + 1;
         let is_repeat = answer == Err(RLNCError::PieceNotUseful);
         let repeats = self.repeats + u64::from(is_repeat);
-        let (rows, taken) = (d.useful_piece_count, d.received_piece_count);
-        let size = crate::piece_line(out, pieces, answer, rows, taken).unwrap();
+        let size = crate::piece_line(
+            out,
+            pieces,
+            answer,
+            d.useful_piece_count,
+            d.received_piece_count,
+        )
+        .unwrap();
         let joining = Joining {
             held: Some(d),
             pieces,

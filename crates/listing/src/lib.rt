@@ -20,7 +20,8 @@ pub const LINE_LEN: usize = 84;
 
 type Line = ArrayString<LINE_LEN>;
 
-// Puts the decimal digits of n behind the line, and a byte behind them.
+// Puts the decimal digits of n behind the line, and a byte behind them. Tried: `write!` of the whole line; the proof does not close, since the
+// contract of `write!` does not say that it succeeds where the text fits.
 fn put_number(line: &mut Line, n: u64, behind: char)
     requires room { array_string_len line.old + 21 ≤ LINE_LEN }
     requires ascii { behind < 128 }
@@ -32,7 +33,8 @@ fn put_number(line: &mut Line, n: u64, behind: char)
     line.push(behind);
 }
 
-// Copies a line to the front of `out`: 21 where that is shorter.
+// Copies a line to the front of `out`: 21 where that is shorter. It hands out how many bytes it put: a slice of them is no plainer, since its callers
+// add up the lengths and write on behind.
 fn put_line(line: &str, out: &mut [u8]) -> Result<usize, RLNCError>
     ensures { Lined line.now out.old result out.new }
 {

@@ -28,7 +28,7 @@ use Rattle.decoder.specs.declared.Decoder.{Decoder}
 use Rattle.decoder.specs.Records.{k_of, l_of, f_of, rows_in, taken_by, sound, bad_state, held_rows}
 use Rattle.decoder.specs.Entries.{decoder_of}
 use Rattle.stored.specs.Forms.{stored_kind, matrix_size, form_size, stored_geometry, form_of, form_rows, form_taken, form_matrix, form_decoder}
-use Rattle.stored.specs.Entries.{Saving, bad_form, Loading}
+use Rattle.stored.specs.Entries.{Saving, bad_form, bad_parts, Loading}
 use Rattle.decoder.proofs.Counters.{held_count}
 use Rattle.decoder.proofs.Sound.{Holds, holds}
 use Rattle.stored.proofs.Numbers.{inside}
@@ -51,12 +51,12 @@ zero_zeros (suc x ∷ xs) e = absurd (true≢false (sym e))
 -- bad counts and bytes behind the held rows, or not
 fine_form : (g : Geometry) (form : List ℕ) → form_rows form ≤ pieces_of g → form_rows form ≤ form_taken form
     → all_zero (drop (form_rows form * body_of g) (form_matrix g form)) ≡ true → bad_form g form ≡ false
-unfolding bad_form
+unfolding bad_form bad_parts form_decoder
 fine_form g form few fewer zeros = λ i. le-ltb (pieces_of g) (form_rows form) few i || le-ltb (form_taken form) (form_rows form) fewer i || not (zeros i)
 
 form_facts : (g : Geometry) (form : List ℕ) → bad_form g form ≡ false
     → (form_rows form ≤ pieces_of g) × (form_rows form ≤ form_taken form) × (all_zero (drop (form_rows form * body_of g) (form_matrix g form)) ≡ true)
-unfolding bad_form
+unfolding bad_form bad_parts form_decoder
 form_facts g form e =
     let (counts, zeros) = or_false (ltb (pieces_of g) (form_rows form) || ltb (form_taken form) (form_rows form)) _ e in
     let (few, fewer) = or_false (ltb (pieces_of g) (form_rows form)) (ltb (form_taken form) (form_rows form)) counts in

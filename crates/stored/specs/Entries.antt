@@ -7,11 +7,10 @@ use Rattle.linear.specs.Choice.{pick}
 use Rattle.linear.specs.Rows.{all_zero}
 use Rattle.block.specs.Refusal.{if_ok, answered}
 use Rattle.stream.specs.declared.Geometry.{Geometry}
-use Rattle.stream.specs.Geometries.{pieces_of, body_of}
 use Rattle.decoder.specs.declared.Decoder.{Decoder}
 use Rattle.decoder.specs.Records.{k_of, l_of, f_of, rows_in, taken_by, bad_state}
 use Rattle.decoder.specs.Answers.{values_of}
-use Rattle.stored.specs.Forms.{form_size, matrix_size, stored_geometry, size_geometry, form_of, form_rows, form_taken, form_matrix, form_decoder}
+use Rattle.stored.specs.Forms.{form_size, matrix_size, stored_geometry, size_geometry, form_of, form_matrix, form_decoder}
 
 -- the values: how many bytes were written; the decoder's
 unfoldable pub saved_values : Result ℕ RLNCError → List ℕ
@@ -39,14 +38,12 @@ pub record Saving (d : Decoder) (elements out : List ℕ) (r : Result ℕ RLNCEr
   pub result : r ≡ answered (save_refusal d (length elements) (length out)) (length (saved_form (size_geometry (k_of d) (l_of d)) d elements))
   pub left : last ≡ if_ok (save_refusal d (length elements) (length out)) (saved_form (size_geometry (k_of d) (l_of d)) d elements ++ drop (length (saved_form (size_geometry (k_of d) (l_of d)) d elements)) out) out
 
--- "22 for bad counts or a nonzero byte behind the held rows"
-unfoldable pub bad_form : Geometry → List ℕ → Bool
-bad_form g form =
-    (ltb (pieces_of g) (form_rows form) || ltb (form_taken form) (form_rows form)) || not (all_zero (drop (form_rows form * body_of g) (form_matrix g form)))
-
--- the same of a record and a matrix
+-- "22 for bad counts or a nonzero byte behind the held rows": of a record and a matrix, and so of a form
 unfoldable pub bad_parts : Decoder → List ℕ → Bool
 bad_parts d matrix = (ltb (k_of d) (rows_in d) || ltb (taken_by d) (rows_in d)) || not (all_zero (drop (rows_in d * f_of d) matrix))
+
+unfoldable pub bad_form : Geometry → List ℕ → Bool
+bad_form g form = bad_parts (form_decoder g form) (form_matrix g form)
 
 -- "Loading refuses, in this order, 25 if empty, 24 for another kind, 25 if short, 21, 22"
 unfoldable pub form_refusal : Option Geometry → List ℕ → ℕ → Answer

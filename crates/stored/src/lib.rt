@@ -12,6 +12,7 @@ use answers::RLNCError;
 use decoder::{Decoder, ReceivedPieceCount, UsefulPieceCount};
 use stream::Geometry;
 
+// An enum of the stored kinds is no plainer: it would name the three geometries again, and convert to them.
 fn stored_kind(g: Geometry) -> u8
     ensures { result ≡ stored_kind g }
 {
@@ -65,9 +66,9 @@ fn put_matrix(held: &[u8], part: &mut [u8])
 
 // The form of a decoder of this geometry.
 fn put_form(g: Geometry, d: Decoder, elements: &[u8], form: &mut [u8])
-    requires d_value { (k_of d ≡ pieces_of g) × (l_of d ≡ length_of g) }
-    requires elements_value { bad_state d (length elements.now) ≡ false }
-    requires g_in_bounds { length form.old ≡ form_size g }
+    requires of_g { (k_of d ≡ pieces_of g) × (l_of d ≡ length_of g) }
+    requires good { bad_state d (length elements.now) ≡ false }
+    requires size { length form.old ≡ form_size g }
     ensures { form.new ≡ form_of g d elements.now }
 {
     let rows = d.useful_piece_count.0;

@@ -22,7 +22,7 @@ module _ (g : Geometry) (form : List ℕ) {d : Decoder} {matrix : List ℕ} (w :
   whole = long ∙ sym (ap (λ (d : Decoder). k_of d * f_of d) d_is)
 
   same_bad : bad_parts d matrix ≡ bad_form g form
-  unfolding bad_parts bad_form form_decoder
+  unfolding bad_form
   same_bad = λ i. bad_parts (d_is i) (matrix_is i)
 
 pub returns-in_default : goal.returns-in_default

@@ -27,40 +27,40 @@ module _ (g : Geometry) (d : Decoder) (elements : List ℕ) (sizes : (k_of d ≡
       (subst (λ (m : ℕ). rows_in d * m ≤ length elements) (sym n_is) (held_room g d elements sizes.0 sizes.1 h.numbers.rows_pieces h.room))
 
 pub overflow_cast-d : goal.overflow_cast-d
-overflow_cast-d c = omega (arith, (holds c.args.d _ c.requires.elements_value).numbers.taken)
+overflow_cast-d c = omega (arith, (holds c.args.d _ c.requires.good).numbers.taken)
 
 pub overflow_cast-rows : goal.overflow_cast-rows
-overflow_cast-rows c = omega (arith, (holds c.args.d _ c.requires.elements_value).numbers.rows_pieces, c.requires.d_value.0, few_pieces c.args.g)
+overflow_cast-rows c = omega (arith, (holds c.args.d _ c.requires.good).numbers.rows_pieces, c.requires.of_g.0, few_pieces c.args.g)
 
 pub overflow_mul-rows : goal.overflow_mul-rows
 overflow_mul-rows c =
     let a = c.args in
-    omega (arith, in_matrix a.g a.d a.elements.now c.requires.d_value c.requires.elements_value c.body_len.result c.body_len.ensures, small a.g)
+    omega (arith, in_matrix a.g a.d a.elements.now c.requires.of_g c.requires.good c.body_len.result c.body_len.ensures, small a.g)
 
 pub slice_bounds-put_matrix-end : goal.slice_bounds-put_matrix-end
 slice_bounds-put_matrix-end c =
     let a = c.args in
-    sym (held_long a.g a.d a.elements.now c.requires.d_value c.requires.elements_value c.body_len.result c.body_len.ensures)
+    sym (held_long a.g a.d a.elements.now c.requires.of_g c.requires.good c.body_len.result c.body_len.ensures)
 
 pub put_matrix-requires : goal.put_matrix-requires
 put_matrix-requires c =
     let a = c.args in
-    let long = held_long a.g a.d a.elements.now c.requires.d_value c.requires.elements_value c.body_len.result c.body_len.ensures in
-    let fits = in_matrix a.g a.d a.elements.now c.requires.d_value c.requires.elements_value c.body_len.result c.body_len.ensures in
-    omega (arith, long, fits, c.split_at_mut-head.ensures.back_len, c.requires.g_in_bounds)
+    let long = held_long a.g a.d a.elements.now c.requires.of_g c.requires.good c.body_len.result c.body_len.ensures in
+    let fits = in_matrix a.g a.d a.elements.now c.requires.of_g c.requires.good c.body_len.result c.body_len.ensures in
+    omega (arith, long, fits, c.split_at_mut-head.ensures.back_len, c.requires.size)
 
 pub returns : goal.returns
 unfolding form_of
 returns c =
     let a = c.args in
-    let (k_is, l_is) = c.requires.d_value in
+    let (k_is, l_is) = c.requires.of_g in
     let r : ℕ = rows_in a.d in
     let high_is : get_or c.to_be_bytes.result 0 0 ≡ taken_by a.d / 256 =
-    ap (λ (l : List ℕ). get_or l 0 0) c.to_be_bytes.ensures ∙ omega (arith, (holds a.d _ c.requires.elements_value).numbers.taken) in
+    ap (λ (l : List ℕ). get_or l 0 0) c.to_be_bytes.ensures ∙ omega (arith, (holds a.d _ c.requires.good).numbers.taken) in
     let low_is : get_or c.to_be_bytes.result 1 0 ≡ taken_by a.d % 256 = ap (λ (l : List ℕ). get_or l 1 0) c.to_be_bytes.ensures in
     let part_long : length c.split_at_mut-head.result.1.now ≡ matrix_size a.g =
-    omega (arith, c.split_at_mut-head.ensures.back_len, c.requires.g_in_bounds) in
-    let long = held_long a.g a.d a.elements.now c.requires.d_value c.requires.elements_value c.body_len.result c.body_len.ensures in
+    omega (arith, c.split_at_mut-head.ensures.back_len, c.requires.size) in
+    let long = held_long a.g a.d a.elements.now c.requires.of_g c.requires.good c.body_len.result c.body_len.ensures in
     let part_is : c.put_matrix.new.part ≡ flat (held_rows a.d a.elements.now) ++ replicate (matrix_size a.g - r * body_of a.g) 0 =
     c.put_matrix.ensures
     ∙ (λ i. take (r * c.body_len.result) a.elements.now ++ replicate (part_long i - long i) 0)

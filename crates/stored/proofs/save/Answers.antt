@@ -24,8 +24,8 @@ returns-then-out-n c =
     let h : length c.args.out.now < form_size c.in_ok-g.g = omega (arith, c.form_len-n.ensures) in
     saves_no_room _ _ _ (not-true _ (sym c.if-not-holds.ensures)) c.in_ok-g.g (sym c.of_sizes.ensures ∙ c.in_ok-g.ensures.ok_part) h
 
-pub put_form-requires-clause-d_value : goal.put_form-requires-clause-d_value
-put_form-requires-clause-d_value c = sizes_are (k_of c.args.d) (l_of c.args.d) c.in_ok-g.g (sym c.of_sizes.ensures ∙ c.in_ok-g.ensures.ok_part)
+pub put_form-requires-clause-of_g : goal.put_form-requires-clause-of_g
+put_form-requires-clause-of_g c = sizes_are (k_of c.args.d) (l_of c.args.d) c.in_ok-g.g (sym c.of_sizes.ensures ∙ c.in_ok-g.ensures.ok_part)
 
 pub returns : goal.returns
 returns c =
