@@ -1,14 +1,14 @@
 -- The block copied out row by row: a turn's part of the data is the block's at its place, so that the data is the block up to there.
 -- Assumes nothing.
 use mathlib.Core.Path.{◌≡◌, refl, sym, ap, ◌∙◌}
-use mathlib.Core.List.{List, ◌++◌, append_assoc}
+use mathlib.Core.List.{List, ◌++◌, append_assoc, append-nil}
 use Prim.Native.Nat.{ℕ, ◌+◌, ◌-◌, ◌*◌, ◌≤◌, min}
 use native.Mathlib.Nat.{suc-mul}
 use native.Mathlib.Numerals.{add-one}
 use native.Mathlib.Decide.{dec_le}
 use native.Mathlib.Omega.{arith}
-use lib.ListN.{length, take, drop}
-use lib.Seq.{take-add, take_at, drop_at, drop-drop, take-take, length-take-le}
+use lib.ListN.{length, take, drop, drop_of_length-le}
+use lib.Seq.{take-add, take_at, drop_at, drop-drop, take-take, take_all, length-take-le}
 use Rattle.linear.proofs.Buffer.{put}
 
 -- the next part put behind what is copied
@@ -41,3 +41,16 @@ module _ (block old : List ℕ) (L i : ℕ) (w : length old ≤ length block) wh
       part (no h) =
           let none : end - at ≡ 0 = omega arith in
           rw none refl
+
+-- Named in docs/PORT.md; no proof here cites them.
+
+-- a copy of all of src over a part as long as it is
+pub copied : (src dst last : List ℕ) → length dst ≡ length src → last ≡ take (length src) src ++ drop (length src) dst → last ≡ src
+copied src dst last e h =
+    h ∙ (λ j. take_all (length src) src (omega arith) j ++ drop_of_length-le dst {i = length src} (omega arith) j) ∙ append-nil src
+
+-- before the first row, nothing is copied
+pub starts : (block old : List ℕ) → Copied block old old 0
+starts block old =
+    let none : min 0 (length old) ≡ 0 = omega arith in
+    ap (λ (x : ℕ). take x block ++ drop x old) (sym none)

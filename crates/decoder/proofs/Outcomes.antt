@@ -1,14 +1,15 @@
--- The outcome of a piece that no test refuses, and those of a recovery whose tests pass.
+-- The outcome of a piece that no test refuses, and those of a recovery whose tests pass; and the outcomes of an order of refusals that is known.
 -- Assumes nothing.
 use mathlib.Core.Path.{◌≡◌, refl, ap}
 use mathlib.Core.Bool.{false}
 use mathlib.Core.List.{List, ◌++◌}
-use Prim.Native.Nat.{ℕ, ◌*◌, ◌≤◌, ◌<◌}
+use Prim.Native.Nat.{ℕ, ◌+◌, ◌*◌, ◌≤◌, ◌<◌}
 use borrow.Author.Tests.{eq-eqb, le-ltb}
 use native.Mathlib.Omega.{arith}
 use lib.Seq.{length-take-le}
-use lib.ListN.{length, take, drop}
+use lib.ListN.{length, take, drop, replicate}
 use Rattle.std.specs.Prelude.{Result, Ok, Err}
+use Rattle.answers.specs.declared.RLNCError.{RLNCError}
 use Rattle.answers.specs.declared.RLNCError.TheVariants.{InvalidDecodedDataFormat}
 use Rattle.galois.specs.FieldLaws.{FieldLaws}
 use Rattle.linear.specs.Buffer.{holding}
@@ -18,7 +19,7 @@ use Rattle.decoder.specs.declared.Decoder.{Decoder}
 use Rattle.decoder.specs.declared.Taken.{Taken}
 use Rattle.decoder.specs.Records.{k_of, l_of, f_of, rows_in, bad_state}
 use Rattle.decoder.specs.Payloads.{block_at}
-use Rattle.decoder.specs.Entries.{take_refusal, rows_after, taking, Decoded, block_in, recover_refusal, Recovery}
+use Rattle.decoder.specs.Entries.{decoder_of, new_refusal, NewDecoder, take_refusal, rows_after, taking, Decoded, block_in, recover_refusal, Recovery}
 
 module _ {𝓕 : FieldLaws} {d : Decoder} {elements full : List ℕ} where
   pub take_made : {t : Taken} {last : List ℕ} → take_refusal d (length elements) (length full) ≡ Ok tt → t ≡ taking 𝓕 d elements full
@@ -45,3 +46,17 @@ module _ (M : ℕ) (d : Decoder) (elements out : List ℕ) (fine : bad_state d (
       let whole : length (take n out) ≡ n = length-take-le n out (omega arith) in
       let front : part ≡ take n (block_at (k_of d) (l_of d) elements) = rw whole at h in
       record { result = rw (r, e) refl; left = rw (r, e) (ap (λ (x : List ℕ). x ++ drop n out) front) }
+
+-- Named in docs/PORT.md; no proof here cites them.
+
+module _ {L k : ℕ} {elements : List ℕ} where
+  pub new_refused : {e : RLNCError} → new_refusal L k (length elements) ≡ Err e → NewDecoder L k elements (Err e) elements
+  new_refused h = record { result = rw h refl; left = rw h refl }
+
+  pub new_made : {last : List ℕ} → new_refusal L k (length elements) ≡ Ok tt → last ≡ replicate (k * (k + L)) 0 ++ drop (k * (k + L)) elements
+      → NewDecoder L k elements (Ok (decoder_of k L 0 0)) last
+  new_made h l = record { result = rw h refl; left = rw h l }
+
+pub take_refused : {𝓕 : FieldLaws} {d : Decoder} {elements full : List ℕ} {e : RLNCError} → take_refusal d (length elements) (length full) ≡ Err e
+    → Decoded 𝓕 d elements full (Err e) elements
+take_refused h = record { result = rw h refl; left = rw h refl }

@@ -1,12 +1,12 @@
 -- What the tests of a record say in numbers: the sizes and counts are within their limits, and so is the matrix.
 -- Assumes nothing.
-use mathlib.Core.Path.{◌≡◌}
-use mathlib.Core.Bool.{true, false, not}
+use mathlib.Core.Path.{◌≡◌, refl}
+use mathlib.Core.Bool.{Bool, true, false, not}
 use Prim.Native.Nat.{ℕ, ◌+◌, ◌*◌, ◌≤◌}
 use native.Mathlib.Nat.{mul-le-mul}
 use native.Mathlib.Omega.{arith}
 use lib.Dec.{eqb, leb, ltb}
-use borrow.Author.Tests.{not-true, not-false, eqb-false, leb-true, ltb-false, ne_eqb, le-leb, le-ltb}
+use borrow.Author.Tests.{not-true, not-false, eqb-false, leb-true, leb-false, ltb-false, ne_eqb, le-leb, lt-ltb, le-ltb}
 use Rattle.linear.proofs.Choice.{and_true, or_false}
 use Rattle.block.specs.Sizes.{over_limit, sized}
 use Rattle.block.proofs.Bounds.{limited}
@@ -71,3 +71,12 @@ module _ (d : Decoder) where
   holds n e =
       let o = or_false (not (sound d)) (ltb n (k_of d * f_of d)) e in
       record { numbers = told (not-false (sound d) o.0); room = ltb-false _ _ o.1 }
+
+-- Named in docs/PORT.md; no proof here cites it.
+
+pub not_below : (a b : ℕ) → leb a b ≡ not (ltb b a)
+not_below a b = go (leb a b) refl
+  where
+    go : (t : Bool) → leb a b ≡ t → t ≡ not (ltb b a)
+    go true e = rw (le-ltb b a (leb-true a b e))
+    go false e = rw (lt-ltb b a (leb-false a b e))

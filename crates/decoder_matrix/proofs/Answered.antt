@@ -1,20 +1,21 @@
--- What a swap and the three rules leave is what the contracts say.
+-- What a swap and the three rules leave is what the contracts say; and the contracts by the tests that lead to each answer.
 -- Assumes nothing.
 use mathlib.Core.Path.{◌≡◌, sym, ap, ◌∙◌}
-use mathlib.Core.Bool.{true}
+use mathlib.Core.Bool.{true, false}
 use mathlib.Core.List.{List, ◌++◌}
-use Prim.Native.Nat.{ℕ, ◌-◌, ◌*◌, ◌<◌}
+use Prim.Native.Nat.{ℕ, ◌+◌, ◌-◌, ◌*◌, ◌≤◌, ◌<◌}
 use native.Mathlib.Nat.{mul-le-mul_right}
 use lib.ListN.{length, replicate}
-use borrow.Author.Tests.{lt-ltb}
-use Rattle.std.specs.Prelude.{Ok}
+use borrow.Author.Tests.{lt-ltb, le-ltb, eq-eqb, ne_eqb}
+use Rattle.std.specs.Prelude.{Ok, Err}
+use Rattle.answers.specs.declared.RLNCError.TheVariants.{InvalidPieceLength, BadState}
 use Rattle.galois.specs.FieldLaws.{FieldLaws}
 use Rattle.linear.specs.Rows.{swap_rows, forward, backward, drop_empty, reduce}
-use Rattle.linear.specs.Buffer.{Ruled, flat}
+use Rattle.linear.specs.Buffer.{put_row, Ruled, flat}
 use Rattle.decoder_matrix.specs.declared.DecoderMatrix.{DecoderMatrix}
 use Rattle.decoder_matrix.specs.declared.rules.Held.{Held}
 use Rattle.decoder_matrix.specs.Matrix.{k_of, sizes_fit, rows_in, with_rows, holding}
-use Rattle.decoder_matrix.specs.Outcomes.{Swapped, reduced, Reduced}
+use Rattle.decoder_matrix.specs.Outcomes.{RowAdded, Swapped, reduced, Reduced}
 use Rattle.linear.proofs.Flat.{as_flat, further}
 use Rattle.decoder_matrix.specs.Steps.{rows_of_held, kept_rows, Applied, Emptied}
 use Rattle.decoder_matrix.proofs.Sizes.{sized}
@@ -50,3 +51,41 @@ module _ (𝓕 : FieldLaws) {h₀ h₁ h₂ h₃ : Held} (a : Applied (forward �
             (q ∙ e.left ∙ (λ i. holding (both.matrix i) (same_rows i) h₂.elements.now)
             ∙ ap (λ (l : List ℕ). flat (reduced 𝓕 m h₀.elements.now) ++ (replicate ((k_of m - length (reduced 𝓕 m h₀.elements.now)) * m.cols) 0 ++ l)) behind);
       }
+
+-- Named in docs/PORT.md; no proof here cites them.
+
+module _ (m : DecoderMatrix) (elements row : List ℕ) where
+  pub unfit_row : sizes_fit m (length elements) ≡ false → RowAdded m elements row (Err BadState) elements
+  unfit_row e = record { answer = rw e; left = rw e }
+
+  module _ (e : sizes_fit m (length elements) ≡ true) where
+    pub full_row : k_of m ≤ m.rows → RowAdded m elements row (Err BadState) elements
+    full_row h = record { answer = rw (e, le-ltb m.rows (k_of m) h); left = rw (e, le-ltb m.rows (k_of m) h) }
+
+    pub other_row : m.rows < k_of m → (length row ≡ m.cols → ⊥) → RowAdded m elements row (Err InvalidPieceLength) elements
+    other_row h n = record {
+      answer = rw (e, lt-ltb m.rows (k_of m) h, ne_eqb (length row) m.cols n);
+      left = rw (e, lt-ltb m.rows (k_of m) h, ne_eqb (length row) m.cols n);
+    }
+
+    pub stored_row : {last : List ℕ} → m.rows < k_of m → length row ≡ m.cols → last ≡ put_row m.cols m.rows row elements
+        → RowAdded m elements row (Ok (with_rows m (m.rows + 1))) last
+    stored_row h l q = record {
+      answer = rw (e, lt-ltb m.rows (k_of m) h, eq-eqb (length row) m.cols l);
+      left = rw (e, lt-ltb m.rows (k_of m) h, eq-eqb (length row) m.cols l) q;
+    }
+
+module _ (m : DecoderMatrix) (elements : List ℕ) (i j : ℕ) where
+  pub unfit_swap : sizes_fit m (length elements) ≡ false → Swapped m elements i j (Err BadState) elements
+  unfit_swap e = record { answer = rw e; left = rw e }
+
+  module _ (e : sizes_fit m (length elements) ≡ true) where
+    pub no_first : m.rows ≤ i → Swapped m elements i j (Err BadState) elements
+    no_first h = record { answer = rw (e, le-ltb i m.rows h); left = rw (e, le-ltb i m.rows h) }
+
+    pub no_second : i < m.rows → m.rows ≤ j → Swapped m elements i j (Err BadState) elements
+    no_second h k = record { answer = rw (e, lt-ltb i m.rows h, le-ltb j m.rows k); left = rw (e, lt-ltb i m.rows h, le-ltb j m.rows k) }
+
+pub unfit_rules : (𝓕 : FieldLaws) (m : DecoderMatrix) (elements : List ℕ) → sizes_fit m (length elements) ≡ false
+    → Reduced 𝓕 m elements (Err BadState) elements
+unfit_rules 𝓕 m elements e = record { answer = rw e; left = rw e }

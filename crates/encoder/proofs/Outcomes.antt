@@ -1,4 +1,4 @@
--- Each entry's outcome where its order of refusals answers Ok: it makes what the definition says.
+-- Each entry's outcome by the answer of its order: Ok makes what the definition says, and a refusal leaves all as it was.
 -- Assumes nothing.
 use mathlib.Core.Path.{◌≡◌, refl, sym, ap}
 use mathlib.Core.Bool.{Bool, true, false}
@@ -7,6 +7,7 @@ use Prim.Native.Nat.{ℕ, ◌*◌}
 use lib.ListN.{length, drop}
 use Rattle.std.specs.Prelude.{Ok, Err}
 use Rattle.answers.specs.Number.{Answer}
+use Rattle.answers.specs.declared.RLNCError.{RLNCError}
 use Rattle.answers.specs.declared.RLNCError.TheVariants.{SizeOverLimit}
 use Rattle.galois.specs.FieldLaws.{FieldLaws}
 use Rattle.linear.specs.Choice.{pick}
@@ -39,3 +40,10 @@ module _ {𝓕 : FieldLaws} {e : Encoder} {block vector out : List ℕ} where
   pub code_whole_made : {r : Answer} {last : List ℕ} → code_whole_refusal e (length block) (length vector) (length out) ≡ Ok tt → r ≡ Ok tt
       → last ≡ encode 𝓕 e.piece_byte_len (rows_of e.piece_byte_len e.piece_count block) vector → CodedWhole 𝓕 e block vector out r last
   code_whole_made h r l = record { result = rw h r; left = rw h l }
+
+-- Named in docs/PORT.md; no proof here cites it.
+
+pub padded_refused : {M : ℕ} {bytes block : List ℕ} {k : ℕ} (e : RLNCError) → padded_refusal (length bytes) k (length block) ≡ Err e
+    → NewPadded M bytes block k (Err e) block
+unfolding made
+padded_refused e h = record { result = rw h refl; left = rw h refl }

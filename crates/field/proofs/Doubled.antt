@@ -2,16 +2,19 @@
 -- Assumes nothing.
 use mathlib.Core.Path.{◌≡◌, refl, sym, ap, ◌∙◌, subst}
 use mathlib.Core.List.{List, [], ◌∷◌}
-use Prim.Native.Nat.{ℕ, zero, suc, ◌+◌, ◌-◌, ◌^◌, ◌≤◌, ◌<◌}
+use Prim.Native.Nat.{ℕ, zero, suc, ◌+◌, ◌-◌, ◌*◌, ◌^◌, ◌≤◌, ◌<◌}
 use native.Mathlib.Nat.{pow-suc}
 use native.Mathlib.Decide.{dec_le}
 use native.Mathlib.Omega.{arith}
+use lib.Dec.{lit<}
 use lib.ListN.{length, get_or, set, length-set}
 use lib.Pow.{pow_mono}
 use Rattle.std.proofs.lemmas.List.{ext_get_or, get_or-set_same, get_or-set_other}
 use Rattle.galois.specs.FieldLaws.{FieldLaws}
 use Rattle.galois.specs.Multiples.{multiples_of}
 use Rattle.galois.proofs.Multiples.{next_multiple}
+use Rattle.field.specs.FieldOf.{field_of}
+use Rattle.field.specs.declared.Field.{Field}
 
 pub record Begun (F : FieldLaws) (q i : ℕ) (m : List ℕ) : Type 0 where
   pub long : length m ≡ 8
@@ -25,8 +28,8 @@ module _ (F : FieldLaws) (q : ℕ) where
       at zero l = sym (F.mul_one q h)
       at (suc k) l = absurd (omega arith)
 
-  doubled : (k : ℕ) → k < 7 → {a n : ℕ} → a ≡ F.mul q (2 ^ k) → n ≡ F.mul 2 a → n ≡ F.mul q (2 ^ suc k)
-  doubled k h e d =
+  next : (k : ℕ) → k < 7 → {a n : ℕ} → a ≡ F.mul q (2 ^ k) → n ≡ F.mul 2 a → n ≡ F.mul q (2 ^ suc k)
+  next k h e d =
       let small : 2 ^ k ≤ 2 ^ 6 = pow_mono {i = k} {j = 6} (omega arith) in
       d ∙ ap (F.mul 2) e ∙ sym (ap (F.mul q) (pow-suc 2 k) ∙ next_multiple F q (2 ^ k) (omega arith))
 
@@ -39,7 +42,7 @@ module _ (F : FieldLaws) (q : ℕ) where
           let e : suc i ≡ k = omega arith in
           let back : suc i - 1 ≡ i = omega arith in
           subst (λ (k : ℕ). get_or (set m (suc i) n) k 0 ≡ F.mul q (2 ^ k)) e
-          (get_or-set_same m (suc i) n 0 (omega (arith, b.long)) ∙ doubled i (omega arith) (b.rule i (omega arith)) (d ∙ ap (λ (j : ℕ). F.mul 2 (get_or m j 0)) back))
+          (get_or-set_same m (suc i) n 0 (omega (arith, b.long)) ∙ next i (omega arith) (b.rule i (omega arith)) (d ∙ ap (λ (j : ℕ). F.mul 2 (get_or m j 0)) back))
       at k h (no y) = get_or-set_other m (suc i) k n 0 (λ e. y (omega arith)) ∙ b.rule k (omega arith)
 
   entry : (k : ℕ) → k < 8 → F.mul q (2 ^ k) ≡ get_or (multiples_of F q) k 0
@@ -60,3 +63,27 @@ module _ (F : FieldLaws) (q : ℕ) where
 
   pub ends : {i : ℕ} {m : List ℕ} → 8 ≤ i → Begun F q i m → m ≡ multiples_of F q
   ends {i} {m} h b = ext_get_or 0 m (multiples_of F q) (b.long ∙ sym many) (λ k l. b.rule k (omega (arith, b.long)) ∙ entry k (omega (arith, b.long)))
+
+-- Named in docs/PORT.md; no proof here cites them.
+
+pub doubled : (f : Field) (q w : ℕ) → w < 128 → {m n : ℕ} → m ≡ (field_of f).mul q w → n ≡ (field_of f).mul 2 m → n ≡ (field_of f).mul q (w * 2)
+doubled f q w h e d = d ∙ ap ((field_of f).mul 2) e ∙ sym (next_multiple (field_of f) q w h)
+
+-- the eight, each x times the one before it
+pub eight
+    : (f : Field) (q m1 m2 m3 m4 m5 m6 m7 : ℕ)
+    → q < 256
+    → m1 ≡ (field_of f).mul 2 q → m2 ≡ (field_of f).mul 2 m1 → m3 ≡ (field_of f).mul 2 m2 → m4 ≡ (field_of f).mul 2 m3
+    → m5 ≡ (field_of f).mul 2 m4 → m6 ≡ (field_of f).mul 2 m5 → m7 ≡ (field_of f).mul 2 m6
+    → q ∷ m1 ∷ m2 ∷ m3 ∷ m4 ∷ m5 ∷ m6 ∷ m7 ∷ [] ≡ multiples_of (field_of f) q
+unfolding multiples_of
+eight f q m1 m2 m3 m4 m5 m6 m7 h e1 e2 e3 e4 e5 e6 e7 =
+    let d0 : q ≡ (field_of f).mul q 1 = sym ((field_of f).mul_one q h) in
+    let d1 = doubled f q 1 (lit< tt) d0 e1 in
+    let d2 = doubled f q 2 (lit< tt) d1 e2 in
+    let d3 = doubled f q 4 (lit< tt) d2 e3 in
+    let d4 = doubled f q 8 (lit< tt) d3 e4 in
+    let d5 = doubled f q 16 (lit< tt) d4 e5 in
+    let d6 = doubled f q 32 (lit< tt) d5 e6 in
+    let d7 = doubled f q 64 (lit< tt) d6 e7 in
+    cc (d0, d1, d2, d3, d4, d5, d6, d7)

@@ -7,7 +7,7 @@ use native.Mathlib.Omega.{arith}
 use lib.ListN.{length, take, drop, length-append, length-drop, take-append-drop}
 use lib.Seq.{length-take-le, drop-append-le}
 use Rattle.std.specs.Prelude.{Option, Some, None, MatchOption, Result, Ok, Err, IsOk, is_ok}
-use Rattle.answers.specs.Number.{Answer, code_of}
+use Rattle.answers.specs.Number.{Answer, number_of, code_of}
 use Rattle.answers.specs.declared.RLNCError.{RLNCError}
 use Rattle.block.specs.Refusal.{if_ok}
 use Rattle.stream.specs.declared.Geometry.{Geometry}
@@ -33,12 +33,12 @@ use Rattle.joiner.proofs.Fronts.{lined_front}
 
 -- ---- the line of a stop
 
-module _ (at : ℕ) (e : RLNCError) {out last : List ℕ} {r : Result ℕ RLNCError} (l : Lined (stop_line (code_of e) at) out r last) (h : end_room ≤ length out) where
-  fits : length (stop_line (code_of e) at) ≤ length out
-  fits = omega (arith, stop_short (code_of e) at)
+module _ (at : ℕ) (a : Answer) {out last : List ℕ} {r : Result ℕ RLNCError} (l : Lined (stop_line (number_of a) at) out r last) (h : end_room ≤ length out) where
+  fits : length (stop_line (number_of a) at) ≤ length out
+  fits = omega (arith, stop_short (number_of a) at)
 
-  pub stops : (n : ℕ) → r ≡ Ok n → Front (stop_line (code_of e) at) out n last
-  stops n q = lined_front l fits n q
+  pub stops : (n : ℕ) → r ≡ Ok n → Front (stop_line (number_of a) at) out n last
+  stops n e = lined_front l fits n e
 
   pub stops_always : IsOk r
   stops_always = put_ok l fits

@@ -1,15 +1,15 @@
 -- Rows one after the other are the front of a buffer, so that a buffer whose rows and rest are known is known.
 -- Assumes nothing.
 use mathlib.Core.Path.{◌≡◌, refl, sym, ap, ◌∙◌}
-use mathlib.Core.List.{List, [], ◌∷◌, ◌++◌, append_assoc}
+use mathlib.Core.List.{List, [], ◌∷◌, ◌++◌, append_assoc, append-nil}
 use Prim.Native.Nat.{ℕ, zero, suc, ◌+◌, ◌-◌, ◌*◌, ◌≤◌}
 use native.Mathlib.Nat.{zero-mul, mul-sub, mul_comm, mul-le-mul_right}
 use native.Mathlib.Omega.{arith}
-use lib.ListN.{length, take, drop, replicate, take-append-drop, length-append}
-use lib.Seq.{take-add, drop-drop, take_at, drop_at}
+use lib.ListN.{length, take, drop, replicate, take-append-drop, drop_of_length-le, length-append}
+use lib.Seq.{take-add, drop-drop, take-length, take_at, drop_at}
 use Rattle.linear.specs.All.{All, none, more}
 use Rattle.linear.specs.Buffer.{rows_of, flat, Ruled}
-use Rattle.linear.proofs.Buffer.{put, suc_row}
+use Rattle.linear.proofs.Buffer.{put, length_part, suc_row}
 
 -- the rows of a buffer, one after the other, are its front
 pub flat_front : (f n : ℕ) (b : List ℕ) → flat (rows_of f n b) ≡ take (n * f) b
@@ -49,3 +49,13 @@ pub cleared_behind : (f k r x : ℕ) (old mid : List ℕ) {z : List ℕ} {want :
 cleared_behind f k r x old mid {z} {want} h w l d e q =
     let many : x ≡ (k - length want) * f = rw l (omega (arith, mul_comm (k - r) f, mul-sub f k r, mul_comm f k, mul_comm f r, mul-le-mul_right f h)) in
     (λ i. (sym (flat_front f r mid) ∙ ap flat w) i ++ ((q ∙ ap (λ (j : ℕ). replicate j 0) many) i ++ (drop-drop x (r * f) mid ∙ ap (λ (j : ℕ). drop j mid) e ∙ d) i))
+
+-- Named in docs/PORT.md; no proof here cites it.
+
+-- a row copied over a part as long as itself
+pub copied : (f a : ℕ) {k : ℕ} (b row : List ℕ) {dst : List ℕ} → k ≡ f → a + f ≤ length b → length row ≡ f
+    → dst ≡ take (length row) row ++ drop (length row) (take k (drop a b)) → put a k dst b ≡ put a f row b
+copied f a {k} b row {dst} g w l e =
+    let part : length (take k (drop a b)) ≤ length row = rw g (omega (arith, length_part a f b w)) in
+    let same : dst ≡ row = e ∙ (λ i. take-length row i ++ drop_of_length-le (take k (drop a b)) part i) ∙ append-nil row in
+    λ i. put a (g i) (same i) b

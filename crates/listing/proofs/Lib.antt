@@ -9,3 +9,4 @@ pub mod Room
 pub mod Short
 pub mod Stepping
 pub mod Taking
+pub mod TwoLines

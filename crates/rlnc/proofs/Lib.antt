@@ -1,4 +1,5 @@
 pub mod Given
+pub mod Numbered
 pub mod Records
 pub mod Forms
 pub mod Streams

@@ -1,12 +1,15 @@
 -- A record that was made, handed out as its number and a number of it; a piece that was taken.
 -- Assumes nothing.
-use mathlib.Core.Path.{◌≡◌, ap, ◌∙◌, subst}
+use mathlib.Core.Path.{◌≡◌, refl, sym, ap, ◌∙◌, subst}
 use mathlib.Core.List.{List}
 use Prim.Native.Nat.{ℕ}
 use lib.ListN.{length}
-use Rattle.std.specs.Prelude.{Result, Err, IsOkAnd, MatchResult}
+use Rattle.std.specs.Prelude.{Result, Ok, Err, IsOkAnd, MatchResult}
+use Rattle.std.specs.Result.{result_unwrap_or}
+use Rattle.answers.specs.Number.{Answer, number_of}
 use Rattle.answers.specs.declared.RLNCError.{RLNCError}
 use Rattle.galois.specs.FieldLaws.{FieldLaws}
+use Rattle.block.specs.Refusal.{if_ok, answered}
 use Rattle.encoder.specs.declared.Encoder.{Encoder}
 use Rattle.encoder.specs.Made as MadeOfEncoder
 use Rattle.encoder.specs.Entries.{padded_refusal, NewPadded, unpadded_refusal, NewUnpadded}
@@ -17,11 +20,11 @@ use Rattle.decoder.specs.declared.Decoder.{Decoder}
 use Rattle.decoder.specs.declared.Taken.{Taken}
 use Rattle.decoder.specs.Records.{rows_in, taken_by}
 use Rattle.decoder.specs.Answers.{taken_number, kept}
-use Rattle.decoder.specs.Entries.{Decoded, Recovery}
+use Rattle.decoder.specs.Entries.{decoder_of, new_refusal, NewDecoder, Decoded, Recovery}
 use Rattle.decoder.proofs.Calls.{number_is, record_is, buffer_is}
 use Rattle.rlnc.specs.Given.{Given}
-use Rattle.rlnc.specs.Records.{EncoderMade, UnpaddedMade, RecoderMade, PieceTaken, DataRecovered}
-use Rattle.rlnc.proofs.Given.{part_of, given_number, given_value}
+use Rattle.rlnc.specs.Records.{EncoderMade, UnpaddedMade, RecoderMade, DecoderMade, PieceTaken, DataRecovered}
+use Rattle.rlnc.proofs.Given.{part_of, number_is as number_answered, given_number, given_value}
 
 -- ---- what `map` leaves, where its closure picks the number that is handed out
 
@@ -50,9 +53,9 @@ recoder_made {n} {width} {k} o h s g =
 
 -- ----
 
-pub data_recovered : {M : ℕ} {d : Decoder} {elements out last : List ℕ} {n r n' : ℕ} {c : Result ℕ RLNCError} → Recovery M d elements out c last
+pub recovered_given : {M : ℕ} {d : Decoder} {elements out last : List ℕ} {n r n' : ℕ} {c : Result ℕ RLNCError} → Recovery M d elements out c last
     → Given c n r n' → DataRecovered M d elements out n r n' last
-data_recovered o g = record { number = given_number _ _ o.result g; length_stored = given_value _ _ o.result g; left = o.left }
+recovered_given o g = record { number = given_number _ _ o.result g; length_stored = given_value _ _ o.result g; left = o.left }
 
 pub piece_taken : {𝓕 : FieldLaws} {d d' : Decoder} {elements full last : List ℕ} {m : Result Taken RLNCError} {r : ℕ} → Decoded 𝓕 d elements full m last
     → (e : Decoder) → d ≡ d' → r ≡ taken_number m → e ≡ kept d m → PieceTaken 𝓕 d' elements full r (rows_in e) (taken_by e) last
@@ -62,3 +65,41 @@ piece_taken {𝓕} {elements = elements} {full} {last} {r = r} o e same n k = su
   taken_stored = ap taken_by (k ∙ record_is o);
   left = buffer_is o;
 })
+
+-- Named in docs/PORT.md; no proof here cites them.
+
+-- what then stands where a count stood
+unfoldable pub rows_or : ℕ → Result Decoder RLNCError → ℕ
+rows_or rows (Ok d) = rows_in d
+rows_or rows (Err e) = rows
+
+unfoldable pub taken_or : ℕ → Result Decoder RLNCError → ℕ
+taken_or taken (Ok d) = taken_by d
+taken_or taken (Err e) = taken
+
+rows_answered : (a : Answer) (d : Decoder) (rows : ℕ) → rows_or rows (answered a d) ≡ if_ok a (rows_in d) rows
+unfolding rows_or
+rows_answered (Ok z) d rows = refl
+rows_answered (Err e) d rows = refl
+
+taken_of_answered : (a : Answer) (d : Decoder) (taken : ℕ) → taken_or taken (answered a d) ≡ if_ok a (taken_by d) taken
+unfolding taken_or
+taken_of_answered (Ok z) d taken = refl
+taken_of_answered (Err e) d taken = refl
+
+pub decoder_made : {L k : ℕ} {elements last : List ℕ} {rows taken r : ℕ} {m : Result Decoder RLNCError} → NewDecoder L k elements m last
+    → (c : Result Decoder RLNCError) → m ≡ c → r ≡ number_of c → DecoderMade L k elements rows taken r (rows_or rows c) (taken_or taken c) last
+decoder_made {L} {k} {elements} {last} {rows} {taken} o c e n = record {
+  number = n ∙ ap number_of (sym e ∙ o.result) ∙ number_answered a (decoder_of k L 0 0);
+  rows_stored = ap (rows_or rows) (sym e ∙ o.result) ∙ rows_answered a (decoder_of k L 0 0) rows;
+  taken_stored = ap (taken_or taken) (sym e ∙ o.result) ∙ taken_of_answered a (decoder_of k L 0 0) taken;
+  left = o.left;
+}
+  where
+    a : Answer
+    a = new_refusal L k (length elements)
+
+pub data_recovered : {M : ℕ} {d : Decoder} {elements out last : List ℕ} {n r : ℕ} {m : Result ℕ RLNCError} → Recovery M d elements out m last
+    → (c : Result ℕ RLNCError) → m ≡ c → r ≡ number_of c → DataRecovered M d elements out n r (result_unwrap_or c n) last
+data_recovered {M} {d} {elements} {out} {last} o c e h =
+    recovered_given (subst (λ (x : Result ℕ RLNCError). Recovery M d elements out x last) e o) (record { number = h; stored = refl })

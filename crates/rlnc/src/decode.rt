@@ -68,7 +68,7 @@ pub fn rlnc_decoder_decode(
     answers::number(answer)
 }
 
-#[tactic(auto, using(crate::proofs::Records::data_recovered))]
+#[tactic(auto, using(crate::proofs::Records::recovered_given))]
 pub fn rlnc_decoder_get_decoded_data(
     piece_byte_len: usize,
     required_piece_count: usize,

@@ -5,7 +5,7 @@ ghost use Rattle.rlnc.specs.Forms.{FormSaved, FormLoaded};
 use crate::decode::decoder_of;
 use crate::give::give;
 
-#[tactic(auto, using(crate::proofs::Forms::form_saved))]
+#[tactic(auto, using(crate::proofs::Forms::saved_given))]
 pub fn rlnc_stored_save(
     piece_byte_len: usize,
     required_piece_count: usize,

@@ -181,3 +181,15 @@ pub none_left : (bit width : ℕ) (rest left : List ℕ) (i x : ℕ) → length 
 unfolding sum_chosen
 none_left bit width [] left i x e = ⊕_zero x
 none_left bit width (c ∷ rest) left i x e = absurd (omega (arith, e))
+
+-- Named in docs/PORT.md; no proof here cites it.
+
+-- a byte that has the rows chosen by the first numbers gets those at the starts, which the next numbers choose
+pub chosen_added : {bit width : ℕ} (done next : List ℕ) {starts : List ℕ} → Collected bit width next starts → (rows : List ℕ) (i old : ℕ) {x y : ℕ}
+    → x ≡ old ⊕ sum_chosen bit width done rows i → y ≡ x ⊕ sum_at (drop (length done * width) rows) starts i → y ≡ old ⊕ sum_chosen bit width (done ++ next) rows i
+chosen_added {bit} {width} done next {starts} c rows i old e f =
+    let behind : List ℕ = drop (length done * width) rows in
+    f ∙ ap (λ (z : ℕ). z ⊕ sum_at behind starts i) e
+    ∙ ⊕_assoc old (sum_chosen bit width done rows i) (sum_at behind starts i)
+    ∙ ap (λ (z : ℕ). old ⊕ z)
+    (ap (λ (z : ℕ). sum_chosen bit width done rows i ⊕ z) (c.sums behind i) ∙ sym (chosen_append bit width done next rows i))

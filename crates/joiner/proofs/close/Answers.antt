@@ -1,6 +1,6 @@
 -- `joiner::close` meets its contract, record by record: the block is lent from the front of the buffer, and the lines have room.
 use Rattle.std.proofs.Common.{◌≡◌, refl, ap, ◌∙◌}
-use Rattle.std.specs.Prelude.{Result, Ok}
+use Rattle.std.specs.Prelude.{Result, Ok, Err}
 use Rattle.answers.specs.declared.RLNCError.{RLNCError}
 use Rattle.stream.specs.declared.Record.{Record}
 use Rattle.joiner.specs.Machine.{state}
@@ -25,9 +25,9 @@ returns-in-Ok-End c =
     c.finish.auto.data _ c.map_or-ending.ensures refl)
 
 pub unwrap-requires : goal.unwrap-requires
-unwrap-requires c = stops_always c.args.at c.in-Err.e c.stop_line.ensures c.requires.end_room_in_bounds
+unwrap-requires c = stops_always c.args.at (Err c.in-Err.e) c.stop_line.ensures c.requires.end_room_in_bounds
 
 pub returns-in-Err : goal.returns-in-Err
 returns-in-Err c =
     closes_stop (state c.args.joining c.args.elements.now) c.args.at c.args.data.now _ c.in-Err.is
-    (stops c.args.at c.in-Err.e c.stop_line.ensures c.requires.end_room_in_bounds _ c.unwrap.ensures)
+    (stops c.args.at (Err c.in-Err.e) c.stop_line.ensures c.requires.end_room_in_bounds _ c.unwrap.ensures)
