@@ -72,7 +72,7 @@ impl DecoderMatrix {
     }
 
     // rows ≤ k ≤ cols, and k rows fit into n bytes. Each caller tests it itself. Tried: one function from `self` and `elements` to
-    // `Result<Held, RLNCError>`. The proof doesn't close: where that is Err, a caller knows nothing of the buffer that it lent.
+    // `Result<Held, RLNCError>`. Its clause that Err leaves the buffer as it was has no proof: the check finds none for such a body.
     #[tactic(auto, unfolding(crate::specs::Matrix::sizes_fit))]
     fn sizes_fit(self, n: usize) -> bool
         ensures { result ≡ sizes_fit self n }

@@ -63,8 +63,8 @@ fn add_chosen(rows: &[u8], numbers: &[u8], bit: u32, out: &mut [u8])
 }
 
 // The starts of the rows whose number has the bit, in the front of `starts`. Each start is stored, and the next one over it where the number
-// lacks the bit. Tried: a branch on the bit and one row in a pass. Then `combine` misses its bar at 32 x 480, six times the Rust's speed or
-// 2.6 us: it takes 3.9 us, and 1.8 us as it stands (bench/README.md).
+// lacks the bit. Tried before: a branch on the bit and one row in a pass, 3.9 us in place of 1.8 at 32 x 480. The bar, six times the Rust's
+// speed, is 2.6 us against the Rust's fastest build there, 15.4 us (bench/README.md).
 fn collect<'a>(numbers: &[u8], bit: u32, width: usize, starts: &'a mut [usize]) -> &'a [usize]
     requires { (bit < 8) × (length numbers.now ≤ length starts.old) × (length numbers.now * width < 2 ^ 64) }
     ensures { Collected bit width numbers.now result.now }
