@@ -24,7 +24,8 @@ pub const BLOCK_LEN: usize = MOST_PIECES * MOST_BYTES;
 // The longest text of one turn: a piece's line, the end line, and the line of the data.
 pub const TEXT_LEN: usize = 2 * LINE_LEN + 2 * BLOCK_LEN + 1;
 
-// How it ended: so many bytes of data stand at the front of the lent block; there are none; or the stream stopped.
+// How it ended: so many bytes of data stand at the front of the lent block; there are none; or the stream stopped. It is kept from turn to turn, so it
+// holds a length and no slice: a slice would keep the block lent.
 #[derive(Clone, Copy, PartialEq, Eq, Debug)]
 pub enum Ending {
     NotYet,
@@ -33,8 +34,8 @@ pub enum Ending {
     Stopped,
 }
 
-// The matrix, the block and the text are lent at each call: there is no heap to hold them. They are parameters and no struct, since two slices behind
-// one `&mut` struct are not covered by the borrow checker.
+// The matrix, the block and the text are lent at each call: there is no heap to hold them. A struct of the three is no plainer: a caller would make it
+// for each call, and `feed` take it apart, since `begin` wants two of them, and `close` the matrix unchanged and the text from further on.
 #[derive(Clone, Copy, PartialEq, Eq, Debug)]
 pub struct Joiner {
     pub reader: Reader,
@@ -42,8 +43,8 @@ pub struct Joiner {
     pub ending: Ending,
 }
 
-// The machine after a turn, and how many bytes of text there are: of what came first, and behind it of what follows, the last lines among them. Two
-// lengths are no plainer as slices: both texts lie in the one buffer that the caller lent, and `Ending` outlives the turn.
+// The machine after a turn, and how many bytes of text there are: of what came first, and behind it of what follows, the last lines among them. Slices
+// in the place of the two lengths are no plainer: the texts lie one behind the other in the caller's buffer, and it goes on behind them.
 #[derive(Clone, Copy, PartialEq, Eq, Debug)]
 pub struct Fed {
     pub joiner: Joiner,

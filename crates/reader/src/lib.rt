@@ -40,8 +40,8 @@ pub enum Came {
     Cut,
 }
 
-// What the bytes that were wanted brought, and the reader behind them. Then comes a piece, whose body is wanted next, or the end, or an error, which
-// stops the stream.
+// What the bytes that were wanted brought, and the reader behind them. `then` is the record that was opened behind it: a piece, whose body is wanted
+// next, or the end; an error stops the stream.
 #[derive(Clone, Copy, PartialEq, Eq, Debug)]
 pub struct Progress {
     pub reader: Reader,
