@@ -78,7 +78,8 @@ fn put_form(g: Geometry, d: Decoder, elements: &[u8], form: &mut [u8])
     put_matrix(&elements[..rows * g.body_len()], matrix);
 }
 
-// The form of a decoder in a good state and of a listed size, at the front of `out`: how many bytes were written.
+// The form of a decoder in a good state and of a listed size, at the front of `out`: how many bytes were written. The matrix beside the record, and
+// the length for a slice, are kept for the C interface.
 pub fn save(d: Decoder, elements: &[u8], out: &mut [u8]) -> Result<usize, RLNCError>
     ensures { Saving d elements.now out.old result out.new }
 {
