@@ -5,7 +5,7 @@
 ghost use Rattle.std.specs.Prelude.{◌≡◌};
 ghost use Rattle.answers.specs.Number.{code_of, number_of};
 
-// All but PieceNotUseful are refusals.
+// All but PieceNotUseful are refusals. No Display: the paper gives numbers and no texts.
 #[derive(Clone, Copy, PartialEq, Eq, Debug)]
 pub enum RLNCError {
     CodingVectorLengthMismatch = 1,

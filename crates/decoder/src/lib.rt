@@ -31,7 +31,7 @@ pub struct UsefulPieceCount(pub usize);
 pub struct ReceivedPieceCount(pub usize);
 
 // Callers, C among them, may put any numbers in: each method looks at them first (`Judged`).
-// The matrix is lent at each call and no field: for C, and since there is no heap.
+// The matrix is lent at each call and no field: for C, and since there is no heap. No constructor from four numbers: the fields are public.
 #[derive(Clone, Copy, PartialEq, Eq, Debug)]
 pub struct Decoder {
     pub required_piece_count: usize,
@@ -40,8 +40,8 @@ pub struct Decoder {
     pub received_piece_count: ReceivedPieceCount,
 }
 
-// What became of a piece that was taken: there is one row more or fewer, or there are as many rows as before, which is 8.
-// 8 is no refusal: docs/DECISIONS.
+// What became of a piece that was taken: there is one row more or fewer, or there are as many as before, and the answer is 8. That is
+// no refusal (docs/DECISIONS.md).
 #[derive(Clone, Copy, PartialEq, Eq, Debug)]
 pub enum Taken {
     Useful(Decoder),
@@ -233,7 +233,7 @@ impl Decoder {
         Ok(self.useful_piece_count.0 == self.required_piece_count)
     }
 
-    // Recovers the data: the block that the rows hold, up to its last marker.
+    // Recovers the data: the block that the rows hold, up to its last marker. Answers how many bytes it wrote: the buffer is the caller's.
     #[tactic(auto, using(crate::proofs::Sound::holds, crate::proofs::Sound::block_small), unfolding(crate::specs::Entries::recover_refusal))]
     pub fn get_decoded_data(self, elements: &[u8], data: &mut [u8]) -> Result<usize, RLNCError>
         ensures { Recovery marker self elements.now «data».old result «data».new }

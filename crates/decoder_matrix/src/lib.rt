@@ -13,7 +13,7 @@ use rules::Held;
 
 mod rules;
 
-// The buffer is no part of the record: C lends it at each call, and there is no heap.
+// The buffer is no part of the record: the caller of the decoder, C among them, lends it at each call, and there is no heap.
 #[derive(Clone, Copy, PartialEq, Eq, Debug)]
 pub struct DecoderMatrix {
     pub num_pieces_coded_together: usize,
@@ -71,7 +71,7 @@ impl DecoderMatrix {
         Ok(held.matrix)
     }
 
-    // rows ≤ k ≤ cols, and k rows fit into n bytes. Each caller tests it itself. Tried: one function from `self` and `elements` to
+    // rows ≤ k ≤ cols, and k rows fit into n bytes. Each caller makes the test itself. Tried: one function from `self` and `elements` to
     // `Result<Held, RLNCError>`. Its clause that Err leaves the buffer as it was has no proof: the check finds none for such a body.
     #[tactic(auto, unfolding(crate::specs::Matrix::sizes_fit))]
     fn sizes_fit(self, n: usize) -> bool

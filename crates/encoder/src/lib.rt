@@ -34,7 +34,7 @@ impl Judged for Encoder {
         block::sizes_fit(self.piece_count, self.piece_byte_len)
     }
 
-    // The block is lent.
+    // n is the length of the block that is lent.
     #[tactic(auto, using(block::proofs::Bounds::within, block::proofs::Bounds::block_within), unfolding(crate::specs::Entries::bad_state))]
     fn fits(self, n: usize) -> bool {
         self.is_sound() && self.piece_count * self.piece_byte_len <= n

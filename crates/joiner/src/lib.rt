@@ -114,7 +114,8 @@ impl Joiner {
     }
 }
 
-// What came first: the header before anything is read, the line of a piece whose body is there, or nothing.
+// What came first: the header before anything is read, the line of a piece whose body is there, or nothing. A match on what came, as below on what
+// follows: a closure is no plainer.
 fn begin(
     joining: Joining,
     f: Field,

@@ -60,7 +60,7 @@ impl Reader {
         }
     }
 
-    // How many bytes are to be read: 0 when it is done.
+    // How many bytes are to be read: 0 when it is done. A match on the state, as in `read`: a closure is no plainer.
     #[tactic(auto, using(crate::proofs::Reading::body_short), unfolding(crate::specs::Reading::wanted))]
     pub fn wants(self) -> usize
         ensures { result ≡ wanted self.place }

@@ -35,7 +35,7 @@ impl Judged for Recoder {
             && block::sizes_fit(k, width - k)
     }
 
-    // The whole pieces are lent.
+    // n is the length of the whole pieces that are lent.
     #[tactic(auto, using(crate::proofs::State::numbers, crate::proofs::State::pieces_within), unfolding(crate::specs::Entries::bad_state))]
     fn fits(self, n: usize) -> bool {
         self.is_sound() && self.num_pieces_received * self.full_coded_piece_byte_len <= n

@@ -26,8 +26,8 @@ const BUFFER_LEN: usize = 65536;
 const MATRIX_LEN: usize = 256 * (256 + 2);
 
 // What a call says: its kind, five numbers, how much of the kept buffer is lent, how much of it is written anew before, and the lengths
-// of the two slices. The kind stays the script's byte, and is matched on: an unknown one does what the last of its module does, which an enum would
-// have to repeat.
+// of the two slices. The kind stays the script's byte, and is matched on: an unknown one does what the last of its module does, or
+// forgets the records, which an enum would have to repeat.
 #[derive(Clone, Copy)]
 struct Call {
     op: u8,
@@ -60,8 +60,8 @@ struct Buffers {
     b: [u8; BUFFER_LEN],
 }
 
-// What a call is lent: the front of a kept buffer, and its two slices. It is taken apart first: two slices behind one `&mut Lent` are not covered by
-// the borrow checker.
+// What a call is lent: the front of a kept buffer, and its two slices. It is taken apart first: the borrow checker does not
+// cover a slice that is read beside one that is written where both lie behind one `&mut Lent`.
 #[derive(Drop)]
 struct Lent<'a> {
     kept: &'a mut [u8],

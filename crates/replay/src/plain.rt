@@ -72,6 +72,7 @@ fn part(rt: &HostRuntime, c: Call, buffer: &mut [u8]) {
     say::answer(rt, r);
 }
 
+// No `From<Call>`: what the numbers mean is the call's.
 fn of(c: Call) -> DecoderMatrix {
     DecoderMatrix {
         num_pieces_coded_together: c.p,

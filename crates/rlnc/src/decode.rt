@@ -35,6 +35,7 @@ pub fn rlnc_decoder_new(
 ) -> u8
     ensures { DecoderMade piece_byte_len required_piece_count elements.old useful_piece_count.old received_piece_count.old result useful_piece_count.new received_piece_count.new elements.new }
 {
+    // Not by `give`: it sets more than one number.
     match Decoder::new(piece_byte_len, required_piece_count, elements) {
         Ok(d) => {
             *useful_piece_count = d.useful_piece_count.0;

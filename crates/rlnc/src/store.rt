@@ -36,6 +36,7 @@ pub fn rlnc_stored_load(
 ) -> u8
     ensures { FormLoaded form.now elements.old (decoder_of required_piece_count.old piece_byte_len.old useful_piece_count.old received_piece_count.old) result (decoder_of required_piece_count.new piece_byte_len.new useful_piece_count.new received_piece_count.new) elements.new }
 {
+    // Not by `give`: it sets more than one number.
     match stored::load(form, elements) {
         Ok(d) => {
             *piece_byte_len = d.piece_byte_len;

@@ -127,6 +127,7 @@ fn scale(f: Field, vec: &mut [u8], q: u8)
     }
 }
 
+// One function over a closure is no plainer: each of the three is a loop of one line.
 // The loops that read a second row go by the index. Tried: `zip`. After it a proof knows nothing of the bytes that were written.
 fn add_row(dst: &mut [u8], src: &[u8])
     requires { length dst.old ≡ length src.now }

@@ -21,6 +21,7 @@ fn is_word(rt: &HostRuntime, i: usize, word: &[u8]) -> bool {
     }
 }
 
+// Also where the word is longer than the buffer, so that neither of the two says the other.
 fn is_given(rt: &HostRuntime, i: usize) -> bool {
     let mut buf = [0u8; WORD_LEN];
     !matches!(rt.arg(i, &mut buf), Err(FillError::NotPresent))

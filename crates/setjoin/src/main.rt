@@ -74,7 +74,7 @@ fn complain(rt: &HostRuntime, text: &[u8]) {
     }
 }
 
-// Nobody reads any more what is written, and a command asks for the status: it is told so, and ends as the signal for that ends it.
+// Whether nobody reads any more what is written and a command asks for the status: it is then told so, and ends as the signal for that ends it.
 fn is_unread(rt: &HostRuntime, e: &io::Error) -> bool {
     matches!(e.kind(), ErrorKind::BrokenPipe) && call::asks_status(rt)
 }
@@ -139,7 +139,7 @@ fn run(rt: &HostRuntime, mode: Mode, lent: &mut Lent) -> Result<Status, Failure>
     Err(Failure::TooLong)
 }
 
-// The end: what is left is written.
+// The end: what is left is written. A match on how it ended, here and above on the mode, is no step to choose: a closure is no plainer.
 fn end(
     rt: &HostRuntime,
     mode: Mode,

@@ -1,8 +1,8 @@
 -- What `Saving` and `Loading` say case by case: each test that held or failed picks one result. And the other way: what a decoder that was saved
 -- or loaded tells of the tests.
 -- Assumes nothing.
-use mathlib.Core.Path.{◌≡◌, refl, ap, ◌∙◌}
-use mathlib.Core.Bool.{true, false}
+use mathlib.Core.Path.{◌≡◌, refl, sym, ap, subst, ◌∙◌}
+use mathlib.Core.Bool.{Bool, true, false}
 use mathlib.Core.List.{List, [], ◌∷◌, ◌++◌}
 use Prim.Native.Nat.{ℕ, ◌≤◌, ◌<◌}
 use native.Mathlib.Omega.{arith}
@@ -10,7 +10,10 @@ use lib.Dec.{ltb}
 use lib.ListN.{length, get_or, drop}
 use borrow.Author.Tests.{lt-ltb, le-ltb}
 use Rattle.std.specs.Prelude.{Option, Some, None, Result, Ok, Err, ok_or}
+use Rattle.answers.specs.Number.{Answer}
+use Rattle.answers.specs.declared.RLNCError.{RLNCError}
 use Rattle.answers.specs.declared.RLNCError.TheVariants.{NoRoom, BadState, UnknownKind, CutRecord}
+use Rattle.linear.specs.Choice.{pick}
 use Rattle.stream.specs.declared.Geometry.{Geometry}
 use Rattle.decoder.specs.declared.Decoder.{Decoder}
 use Rattle.decoder.specs.Records.{k_of, l_of, bad_state}
@@ -32,6 +35,18 @@ module _ (d : Decoder) (elements out : List ℕ) where
   pub saves_bad : bad_state d (length elements) ≡ true → Saving d elements out (Err BadState) out
   unfolding save_refusal
   saves_bad b = record { result = rw b; left = rw b }
+
+  -- what `?` hands on of a record that is not admitted
+  pub saves_unfit : {a : Answer} {e : RLNCError} {r : Result ℕ RLNCError} → a ≡ pick (bad_state d (length elements)) (Err BadState) (Ok tt) → a ≡ Err e
+      → (y : RLNCError) × (r ≡ Err y) × (y ≡ e) → Saving d elements out r out
+  saves_unfit {a} {e} {r} p q h = go (bad_state d (length elements)) refl p
+    where
+      go : (t : Bool) → bad_state d (length elements) ≡ t → a ≡ pick t (Err BadState) (Ok tt) → Saving d elements out r out
+      go true b p = subst (λ (r : Result ℕ RLNCError). Saving d elements out r out) (sym (h.1 ∙ ap Err (h.2 ∙ is))) (saves_bad b)
+        where
+          is : e ≡ BadState
+          is = let w : ◌≡◌ {A = Answer} (Err e) (Err BadState) = sym q ∙ p in cc
+      go false b p = let w : ◌≡◌ {A = Answer} (Ok tt) (Err e) = sym p ∙ q in absurd cc
 
   module _ (b : bad_state d (length elements) ≡ false) where
     pub saves_unlisted : size_geometry (k_of d) (l_of d) ≡ None → Saving d elements out (Err UnknownKind) out

@@ -9,6 +9,7 @@ ghost use Rattle.stored.specs.Forms.{stored_kind, matrix_size, form_size, stored
 ghost use Rattle.stored.specs.Entries.{bad_parts, Saving, Loading};
 
 use answers::RLNCError;
+use block::judged::Judged;
 use decoder::{Decoder, ReceivedPieceCount, UsefulPieceCount};
 use stream::Geometry;
 
@@ -83,9 +84,7 @@ fn put_form(g: Geometry, d: Decoder, elements: &[u8], form: &mut [u8])
 pub fn save(d: Decoder, elements: &[u8], out: &mut [u8]) -> Result<usize, RLNCError>
     ensures { Saving d elements.now out.old result out.new }
 {
-    if !d.holds(elements.len()) {
-        return Err(RLNCError::BadState);
-    }
+    d.admit(elements)?;
     let g = of_sizes(d.required_piece_count, d.piece_byte_len).ok_or(RLNCError::UnknownKind)?;
     let n = form_len(g);
     if out.len() < n {

@@ -16,7 +16,7 @@ pub enum Geometry {
     Of32By480 = 0x13,
 }
 
-// The sizes of the largest one.
+// The sizes of the largest one: its pieces, and the bytes of a piece's payload.
 pub const MOST_PIECES: usize = 32;
 
 pub const MOST_BYTES: usize = 480;
