@@ -52,6 +52,7 @@ pub struct Fed {
     pub later: usize,
 }
 
+// A length, as in `Fed`.
 #[derive(Clone, Copy, PartialEq, Eq, Debug)]
 struct Closing {
     ending: Ending,

@@ -20,7 +20,7 @@ pub struct Joining {
     pub repeats: u64,
 }
 
-// The record after a piece, and how many bytes its line has.
+// The record after a piece, and how many bytes its line has: a length, and no slice, as in `put_line`. So it is in `End`.
 #[derive(Clone, Copy, PartialEq, Eq, Debug)]
 pub struct Step {
     pub joining: Joining,

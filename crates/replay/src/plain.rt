@@ -33,6 +33,7 @@ fn asked(rt: &HostRuntime, c: Call, a: &mut [u8], b: &[u8]) {
     }
 }
 
+// No plainer: std has no name for it.
 fn low(n: usize) -> u8 {
     (n & 0xff) as u8
 }

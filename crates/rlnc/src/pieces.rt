@@ -75,6 +75,7 @@ pub fn rlnc_stream_write(kind: u8, piece: &[u8], out: &mut [u8]) -> u8
 pub fn rlnc_stream_sizes(kind: u8, piece_count: &mut usize, piece_byte_len: &mut usize) -> u8
     ensures { SizesGiven (geometry_of kind) piece_count.old piece_byte_len.old result piece_count.new piece_byte_len.new }
 {
+    // Not by `give`: it sets more than one number.
     match Geometry::try_from(kind) {
         Ok(g) => {
             *piece_count = g.piece_count();

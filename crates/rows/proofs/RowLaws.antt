@@ -26,6 +26,15 @@ get_or_sum (s ∷ src) (d ∷ dst) zero h k = refl
 get_or_sum (s ∷ src) (d ∷ dst) (suc i) h k = get_or_sum src dst i (le_of_suc-le-suc h) (le_of_suc-le-suc k)
 
 module _ (𝓕 : FieldLaws) where
+  -- Named in docs/PORT.md; no proof here cites it.
+  pub get_or_added : (q : ℕ) (src dst : List ℕ) (i : ℕ) → i < length src → i < length dst
+      → get_or (add_multiple 𝓕 q src dst) i 0 ≡ get_or dst i 0 ⊕ 𝓕.mul q (get_or src i 0)
+  unfolding add_multiple
+  get_or_added q [] dst i h k = absurd (not-suc-le-zero h)
+  get_or_added q (s ∷ src) [] i h k = absurd (not-suc-le-zero k)
+  get_or_added q (s ∷ src) (d ∷ dst) zero h k = refl
+  get_or_added q (s ∷ src) (d ∷ dst) (suc i) h k = get_or_added q src dst i (le_of_suc-le-suc h) (le_of_suc-le-suc k)
+
   pub added_zero : (src dst : List ℕ) → add_multiple 𝓕 0 src dst ≡ dst
   unfolding add_multiple
   added_zero [] dst = refl

@@ -1,4 +1,5 @@
 -- `stored::put_form` meets its contract: the counts of a good record fit their bytes, and its held rows are the first bytes of the matrix.
+-- Answers of one line stay each by itself: a lemma is no plainer.
 use Rattle.std.proofs.Common.{◌≡◌, ℕ, List, ◌∷◌, ◌++◌, ◌-◌, ◌*◌, ◌/◌, ◌%◌, ◌≤◌, sym, ap, ◌∙◌, length, get_or, take, subst, replicate, false, arith}
 use lib.Seq.{length-take-le}
 use Rattle.linear.specs.Buffer.{flat}

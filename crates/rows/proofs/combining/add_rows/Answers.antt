@@ -1,4 +1,5 @@
 -- `rows::combining::add_rows`: a turn adds the rows at four starts, or at one.
+-- Answers of one line stay each by itself: a lemma is no plainer.
 use Rattle.std.proofs.Common.{◌≡◌, ◌≤◌, List, ℕ, [], ◌∷◌, ◌++◌, ◌+◌, ◌-◌, ◌*◌, ◌/◌, length, get_or, take, drop, sym, ap, ◌∙◌, subst, arith, take-append-drop}
 use Rattle.std.proofs.Math.Seq.{take-add, get_or-take, get_or-drop, take_all}
 use Rattle.std.proofs.lemmas.List.{take_more}

@@ -1,4 +1,5 @@
 -- `decoder_matrix::rules::Held::remove_zero_rows` meets its contract: the rows kept end within the k rows that there is room for.
+-- Answers of one line stay each by itself: a lemma is no plainer.
 use Rattle.std.proofs.Common.{ℕ, ◌≡◌, ◌+◌, ◌-◌, ◌*◌, ◌≤◌, ◌<◌, true, List, [], length, get_or, take, set, replicate, arith, rules, refl, sym, ap, ◌∙◌, subst}
 use native.Mathlib.Nat.{mul-le-mul_right}
 use Rattle.linear.specs.Rows.{all_zero, drop_empty}
