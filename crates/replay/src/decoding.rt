@@ -36,18 +36,19 @@ pub(crate) fn call(rt: &HostRuntime, c: Call, d: Decoder, lent: Lent<'_>) -> Dec
         }
         _ => say::kept(rt, d, stored::load(a, elements)),
     };
-    counts(rt, next);
+    say::counts(
+        rt,
+        [
+            next.get_num_pieces_coded_together(),
+            next.get_piece_byte_len(),
+            next.get_full_coded_piece_byte_len(),
+            next.get_received_piece_count(),
+            next.get_useful_piece_count(),
+            next.get_remaining_piece_count(),
+        ],
+    );
+    // In the script 1 is complete, 0 is not, and 2 is refused.
+    say::number_or(rt, b" 2", next.is_already_decoded().map(usize::from));
     say::buffers(rt, elements, a, b);
     next
-}
-
-fn counts(rt: &HostRuntime, d: Decoder) {
-    say::count(rt, d.get_num_pieces_coded_together());
-    say::count(rt, d.get_piece_byte_len());
-    say::count(rt, d.get_full_coded_piece_byte_len());
-    say::count(rt, d.get_received_piece_count());
-    say::count(rt, d.get_useful_piece_count());
-    say::count(rt, d.get_remaining_piece_count());
-    // In the script 1 is complete, 0 is not, and 2 is refused.
-    say::number_or(rt, b" 2", d.is_already_decoded().map(usize::from));
 }

@@ -25,13 +25,14 @@ pub(crate) fn call(rt: &HostRuntime, c: Call, e: Encoder, lent: Lent<'_>) -> Enc
             e
         }
     };
-    counts(rt, next);
+    say::counts(
+        rt,
+        [
+            next.get_piece_count(),
+            next.get_piece_byte_len(),
+            next.get_full_coded_piece_byte_len(),
+        ],
+    );
     say::buffers(rt, block, a, b);
     next
-}
-
-fn counts(rt: &HostRuntime, e: Encoder) {
-    say::count(rt, e.get_piece_count());
-    say::count(rt, e.get_piece_byte_len());
-    say::count(rt, e.get_full_coded_piece_byte_len());
 }

@@ -21,14 +21,15 @@ pub(crate) fn call(rt: &HostRuntime, c: Call, r: Recoder, lent: Lent<'_>) -> Rec
             r
         }
     };
-    counts(rt, next);
+    say::counts(
+        rt,
+        [
+            next.get_original_num_pieces_coded_together(),
+            next.get_num_pieces_recoded_together(),
+            next.get_piece_byte_len(),
+            next.get_full_coded_piece_byte_len(),
+        ],
+    );
     say::buffers(rt, pieces, a, b);
     next
-}
-
-fn counts(rt: &HostRuntime, r: Recoder) {
-    say::count(rt, r.get_original_num_pieces_coded_together());
-    say::count(rt, r.get_num_pieces_recoded_together());
-    say::count(rt, r.get_piece_byte_len());
-    say::count(rt, r.get_full_coded_piece_byte_len());
 }

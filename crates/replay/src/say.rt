@@ -38,6 +38,13 @@ pub(crate) fn count(rt: &HostRuntime, counted: Result<usize, RLNCError>) {
     number_or(rt, b" no", counted);
 }
 
+// The counts of a record, one after the other.
+pub(crate) fn counts<const N: usize>(rt: &HostRuntime, counts: [Result<usize, RLNCError>; N]) {
+    for counted in counts {
+        count(rt, counted);
+    }
+}
+
 // A number, or the script's word for a refusal and the refusal's number.
 pub(crate) fn number_or(rt: &HostRuntime, refused: &[u8], found: Result<usize, RLNCError>) {
     match found {
