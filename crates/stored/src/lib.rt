@@ -43,7 +43,10 @@ fn form_len(g: Geometry) -> usize
 fn of_kind(kind: u8) -> Option<Geometry>
     ensures { result ≡ stored_geometry kind }
 {
-    Geometry::ALL.into_iter().find(|g| stored_kind(*g) == kind)
+    Geometry::ALL
+        .iter()
+        .copied()
+        .find(|g| stored_kind(*g) == kind)
 }
 
 // The geometry of a decoder of these sizes, if it is listed.
@@ -51,7 +54,7 @@ fn of_kind(kind: u8) -> Option<Geometry>
 fn of_sizes(piece_count: usize, piece_byte_len: usize) -> Option<Geometry>
     ensures { result ≡ size_geometry piece_count piece_byte_len }
 {
-    Geometry::ALL.into_iter().find(|g| g.piece_count() == piece_count
+    Geometry::ALL.iter().copied().find(|g| g.piece_count() == piece_count
         && g.piece_byte_len() == piece_byte_len)
 }
 

@@ -77,7 +77,7 @@ impl TryFrom<u8> for Geometry {
 
     #[tactic(auto, unfolding(crate::specs::Geometries::geometry_of))]
     fn try_from(kind: u8) -> Result<Self, RLNCError> {
-        let listed = Geometry::ALL.into_iter().find(|g| g.kind() == kind);
+        let listed = Geometry::ALL.iter().copied().find(|g| g.kind() == kind);
         listed.ok_or(RLNCError::UnknownKind)
     }
 }
