@@ -2,13 +2,14 @@
 -- Assumes nothing.
 use mathlib.Core.Path.{◌≡◌, refl, sym, ap, ◌∙◌}
 use mathlib.Core.List.{List, ◌++◌, append_assoc, append-nil}
-use Prim.Native.Nat.{ℕ, ◌+◌, ◌-◌, ◌*◌, ◌≤◌, min}
-use native.Mathlib.Nat.{suc-mul}
+use Prim.Native.Nat.{ℕ, ◌+◌, ◌-◌, ◌*◌, ◌/◌, ◌%◌, ◌≤◌, ◌<◌, min}
+use native.Mathlib.Nat.{suc-mul, mul-le-mul_right}
 use native.Mathlib.Numerals.{add-one}
 use native.Mathlib.Decide.{dec_le}
 use native.Mathlib.Omega.{arith}
 use lib.ListN.{length, take, drop, drop_of_length-le}
 use lib.Seq.{take-add, take_at, drop_at, drop-drop, take-take, take_all, length-take-le}
+use Rattle.std.proofs.lemmas.Grind.{div_ceil_times}
 use Rattle.linear.proofs.Buffer.{put}
 
 -- the next part put behind what is copied
@@ -41,6 +42,19 @@ module _ (block old : List ℕ) (L i : ℕ) (w : length old ≤ length block) wh
       part (no h) =
           let none : end - at ≡ 0 = omega arith in
           rw none refl
+
+-- the rows that hold n bytes, L in each, are rows of the block, and each begins before the n bytes end
+pub needed : (n L k i : ℕ) → 0 < L → n ≤ k * L → i < n / L + min 1 (n % L) → (i < k) × (i * L < n)
+needed n L k i p h q =
+    let c : ℕ = n / L + min 1 (n % L) in
+    let over : c * L < n + L = (div_ceil_times n L p).1 in
+    let up : (i + 1) * L ≤ c * L = mul-le-mul_right L (omega (arith, q)) in
+    let here : i * L < n = omega (arith, ap (λ (x : ℕ). x * L) (add-one i) ∙ suc-mul i L) in
+    (below (dec_le k i) here, here)
+  where
+    below : Dec (k ≤ i) → i * L < n → i < k
+    below (yes e) g = absurd (omega (arith, mul-le-mul_right L e))
+    below (no e) g = omega arith
 
 -- Named in docs/PORT.md; no proof here cites them.
 

@@ -48,9 +48,10 @@ impl<'a> BlockIn<'a> {
         Ok(n)
     }
 
-    // The index of the block's last marker.
+    // The index of the block's last marker. Not inlined, as `copy_to`: in one body with it LLVM spends two more instructions on each byte.
     // Tried: `(0..k).rev().find_map(..)`. The proof does not close: it does not know that the closure is called for rows below k alone.
     #[tactic(auto, using(crate::proofs::Marker::index_in, crate::proofs::Payload::bytes_within, crate::proofs::Search::none_behind, crate::proofs::Search::row_marked, crate::proofs::Search::row_unmarked))]
+    #[inline(never)]
     fn find_marker(&self) -> Option<usize>
         ensures { result ≡ last_marker marker (bytes self.now) }
     {
@@ -76,16 +77,18 @@ impl<'a> BlockIn<'a> {
         true
     }
 
-    // The block's first bytes, as many as `data` has.
+    // The block's first bytes, as many as `data` has: from the rows that hold them, and no others.
     // Tried: `chunks_mut`. A proof does not see what was written through its parts.
+    #[inline(never)]
+    #[tactic(auto, using(crate::proofs::Copying::needed))]
     pub(crate) fn copy_to(&self, data: &mut [u8])
         requires { length «data».old ≤ self.now.k * self.now.len }
         ensures { «data».new ≡ take (length «data».old) (bytes self.now) }
     {
-        for i in 0..self.k {
-            let at = (i * self.len).min(data.len());
-            let end = (at + self.len).min(data.len());
-            data[at..end].copy_from_slice(&self.payload(i)[..end - at]);
+        for i in 0..data.len().div_ceil(self.len) {
+            let at = i * self.len;
+            let n = self.len.min(data.len() - at);
+            data[at..at + n].copy_from_slice(&self.payload(i)[..n]);
         }
     }
 }
