@@ -24,6 +24,12 @@ use Rattle.rows.specs.Outcomes.{add_row}
 use Rattle.rows.specs.Chosen.{sum_chosen}
 use Rattle.rows.proofs.RowLaws.{length_sum, get_or_sum}
 
+-- there is one row of no bytes
+pub one_empty : (r s : List ℕ) → length r ≡ 0 → length s ≡ 0 → r ≡ s
+one_empty [] [] e f = refl
+one_empty [] (y ∷ s) e f = absurd (omega arith)
+one_empty (x ∷ r) s e f = absurd (omega arith)
+
 -- ---- the numbers without their b low bits, and bit b of each
 
 abbrev pub above : ℕ → List ℕ → List ℕ

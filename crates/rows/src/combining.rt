@@ -39,6 +39,10 @@ fn sum_bits(f: Field, rows: &[u8], numbers: &[u8], out: &mut [u8])
     requires { length numbers.now * length out.old ≤ length rows.now }
     ensures { out.new ≡ combine (field_of f) (length out.old) numbers.now (rows_of (length out.old) (length numbers.now) rows.now) }
 {
+    // With no byte to sum up, the starts of the rows would be collected for nothing.
+    if out.is_empty() {
+        return;
+    }
     clear(out);
     for bit in (0..8).rev() {
         double(f, out);

@@ -80,7 +80,8 @@ impl Parts {
 }
 
 // The same as mul_vec_by_scalar_then_add_into_vec for two rows of a matrix, with no copy: the part at `from` times the scalar added to
-// the part at `to`.
+// the part at `to`. Not inlined: the matrix calls it in a loop that most often goes on to the next row, and LLVM would do half of it there.
+#[inline(never)]
 pub fn mul_part_by_scalar_then_add_into_part(
     f: Field,
     buffer: &mut [u8],
@@ -108,7 +109,10 @@ pub fn mul_part_by_scalar_then_add_into_part(
 pub fn clear(vec: &mut [u8])
     ensures { vec.new ≡ replicate (length vec.old) 0 }
 {
-    vec.fill(0);
+    // Not by `fill`, which stores the last byte apart: a call for a few bytes took twice as long.
+    for b in vec.iter_mut() {
+        *b = 0;
+    }
 }
 
 // Whether every byte is 0.

@@ -3,8 +3,15 @@ use Rattle.std.proofs.Common.{◌≡◌, List, ℕ, suc, ◌-◌, length, ap, �
 use Rattle.field.specs.FieldOf.{field_of}
 use Rattle.linear.specs.Buffer.{rows_of}
 use Rattle.linear.specs.Pieces.{combine}
-use Rattle.rows.proofs.CombineLaws.{above, above_none, begun, grown}
+use Rattle.linear.proofs.Coding.{length_combine}
+use Rattle.rows.proofs.CombineLaws.{one_empty, above, above_none, begun, grown}
 use Rattle.rows.proofs.combining.sum_bits.Goals as goal
+
+pub returns-then-is_empty : goal.returns-then-is_empty
+returns-then-is_empty c =
+    let a = c.args in
+    let none : length a.out.now ≡ 0 = grind (arith, c.is_empty.ensures, c.if-is_empty.true) in
+    one_empty a.out.now _ none (length_combine (field_of a.f) (length a.out.now) a.numbers.now _ ∙ none)
 
 pub loop-bit-init : goal.loop-bit-init
 loop-bit-init c =
