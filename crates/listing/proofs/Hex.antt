@@ -1,17 +1,15 @@
--- Hexadecimal digits, two for each byte: how long their text is, and that the crate `hex` writes it.
+-- Hexadecimal digits, two for each byte: how long their text is, and what putting those of one byte more makes.
 -- Assumes nothing.
-use mathlib.Core.Path.{◌≡◌, refl}
-use mathlib.Core.Bool.{Bool, true, ◌&&◌}
-use mathlib.Core.List.{List, [], ◌∷◌}
-use Prim.Native.Nat.{ℕ, zero, suc, ◌+◌, ◌*◌, ◌/◌, ◌%◌, ◌<◌}
+use mathlib.Core.Path.{◌≡◌, refl, sym, ap, ◌∙◌}
+use mathlib.Core.List.{List, [], ◌∷◌, ◌++◌, append_assoc}
+use Prim.Native.Nat.{ℕ, ◌+◌, ◌*◌, ◌/◌, ◌%◌, ◌<◌}
+use native.Mathlib.Numerals.{add-one}
 use native.Mathlib.Omega.{arith}
-use lib.Dec.{eqb}
-use lib.ListN.{length, length-append}
-use Rattle.std.proofs.Common.{slice_index, inl, inr}
-use Rattle.std.proofs.lemmas.Bool.{and_parts, cases_lt, eqb-true}
-use Rattle.hex.specs.Hex.{IsBytes, lower_digits, encode_with, encode_lower}
+use lib.ListN.{length, get_or, take, drop, set, length-append}
+use lib.Seq.{take-suc, length-take-le}
 use Rattle.listing.specs.Text.{digit, hex}
 use Rattle.listing.specs.Lines.{data_line}
+use Rattle.listing.proofs.Putting.{one_behind}
 
 pub length_hex : (bytes : List ℕ) → length (hex bytes) ≡ length bytes * 2
 unfolding hex
@@ -22,31 +20,27 @@ pub length_data_line : (bytes : List ℕ) → length (data_line bytes) ≡ lengt
 unfolding data_line
 length_data_line bytes = omega (arith, length_hex bytes, length-append (hex bytes) (10 ∷ []))
 
--- ---- the crate's sixteen digits are ours, place by place
+hex_append : (xs ys : List ℕ) → hex (xs ++ ys) ≡ hex xs ++ hex ys
+unfolding hex
+hex_append [] ys = refl
+hex_append (x ∷ xs) ys = ap (λ (l : List ℕ). digit (x / 16) ∷ digit (x % 16) ∷ l) (hex_append xs ys)
 
-agree : ℕ → Bool
-agree zero = true
-agree (suc n) = eqb (slice_index lower_digits n) (digit n) && agree n
+-- the digits of one byte more
+module _ (bytes out : List ℕ) (i : ℕ) (h : i < length bytes) (room : length out ≡ length bytes * 2) where
+  hex_more : hex (take (i + 1) bytes) ≡ (hex (take i bytes) ++ (digit (get_or bytes i 0 / 16) ∷ [])) ++ (digit (get_or bytes i 0 % 16) ∷ [])
+  unfolding hex
+  hex_more =
+      ap (λ (n : ℕ). hex (take n bytes)) (add-one i) ∙ ap hex (take-suc bytes i 0 h) ∙ hex_append (take i bytes) (get_or bytes i 0 ∷ [])
+      ∙ sym (append_assoc (hex (take i bytes)) (digit (get_or bytes i 0 / 16) ∷ []) (digit (get_or bytes i 0 % 16) ∷ []))
 
-agree_at : (n d : ℕ) → agree n ≡ true → d < n → slice_index lower_digits d ≡ digit d
-unfolding agree
-agree_at zero d a h = absurd (omega arith)
-agree_at (suc n) d a h =
-    let parts = and_parts (eqb (slice_index lower_digits n) (digit n)) (agree n) a in
-    elim (cases_lt d n) [
-      | inl below ↦ agree_at n d parts.1 below
-      | inr top ↦
-          let e : d ≡ n = omega arith in
-          rw e (eqb-true _ _ parts.0)
-    ]
-
-same_digit : (d : ℕ) → d < 16 → slice_index lower_digits d ≡ digit d
-unfolding agree
-same_digit d h = agree_at 16 d refl h
-
-pub written : (bytes : List ℕ) → IsBytes bytes → encode_lower bytes ≡ hex bytes
-unfolding encode_with hex
-written [] h = refl
-written (b ∷ bytes) h =
-    let fits : b < 256 = h 0 in
-    λ i. same_digit (b / 16) (omega arith) i ∷ same_digit (b % 16) (omega arith) i ∷ written bytes (λ k. h (suc k)) i
+  pub turn : {now : List ℕ} {high low : ℕ} → now ≡ hex (take i bytes) ++ drop (2 * i) out → high ≡ digit (get_or bytes i 0 / 16)
+      → low ≡ digit (get_or bytes i 0 % 16) → set (set now (2 * i) high) (2 * i + 1) low ≡ hex (take (i + 1) bytes) ++ drop (2 * (i + 1)) out
+  turn {now} {high} {low} e p q =
+      let text : List ℕ = hex (take i bytes) in
+      let long : length text ≡ 2 * i = omega (arith, length_hex (take i bytes), length-take-le i bytes (omega arith)) in
+      let longer : length (text ++ (high ∷ [])) ≡ 2 * i + 1 = omega (arith, long, length-append text (high ∷ [])) in
+      let next : 2 * i + 1 + 1 ≡ 2 * (i + 1) = omega arith in
+      ap (λ (l : List ℕ). set (set l (2 * i) high) (2 * i + 1) low) e
+      ∙ ap (λ (l : List ℕ). set l (2 * i + 1) low) (one_behind text out (2 * i) high (sym long) (omega (arith, room)))
+      ∙ one_behind (text ++ (high ∷ [])) out (2 * i + 1) low (sym longer) (omega (arith, room))
+      ∙ (λ j. ((text ++ (p j ∷ [])) ++ (q j ∷ [])) ++ drop (next j) out) ∙ ap (λ (l : List ℕ). l ++ drop (2 * (i + 1)) out) (sym hex_more)
