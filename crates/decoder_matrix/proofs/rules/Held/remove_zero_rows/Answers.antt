@@ -37,6 +37,28 @@ module _ (h now : Held) (j kept : ℕ) (e : now.matrix ≡ h.matrix)
       let fits : sizes_fit h.matrix (length now.elements.now) ≡ true = rw e at now.fits in
       omega (arith, whole l, (sized h.matrix (length now.elements.now) fits).room)
 
+pub returns : goal.returns
+returns c =
+    let h = c.args.self.now in
+    let m = h.matrix in
+    let l = c.loop-j in
+    let old = h.elements.now in
+    let now = l.self.elements.now in
+    let v = l.invariant in
+    let e : l.j ≡ m.rows = omega arith in
+    let top = few h l.self _ _ v.matrix v.keeping l.auto.j-end in
+    let all = all_kept m.cols m.rows (k_of m) l.kept old now (rw e at v.keeping) in
+    let x : ℕ = k_of m * m.cols - l.kept * m.cols in
+    let behind = further (m.rows * m.cols) (k_of m * m.cols) now old (mul-le-mul_right m.cols (sized m (length old) h.fits).few) v.keeping.rest in
+    let cleared =
+    c.fill.ensures.after (search rules)
+    ∙ ap (λ (i : ℕ). replicate i 0) (length_part (l.kept * m.cols) x now (inside h l.self _ _ v.matrix v.keeping l.auto.j-end)) in
+    record {
+      matrix = ap (λ (n : DecoderMatrix). with_rows n l.kept) v.matrix ∙ ap (with_rows m) (sym all.1);
+      lent = v.lent;
+      left = cleared_behind m.cols (k_of m) l.kept x old now top all.0 all.1 behind (whole h l.self _ _ v.matrix v.keeping l.auto.j-end) cleared;
+    }
+
 pub loop-j-init : goal.loop-j-init
 unfolding drop_empty
 loop-j-init c = record { matrix = refl; lent = refl; keeping = record { few = omega arith; front = refl; later = refl; rest = refl } }
@@ -89,25 +111,3 @@ invariant_of-self c =
     (c.fill.ensures.len ∙ length_part (l.kept * m.cols) (k_of m * m.cols - l.kept * m.cols) now room) in
     let fewer_rows : l.kept ≤ l.self.matrix.rows = rw v.matrix (omega (arith, v.keeping.few)) in
     record { fits = ap (sizes_fit (with_rows l.self.matrix l.kept)) same ∙ fewer l.self.matrix (length now) l.self.fits l.kept fewer_rows }
-
-pub returns : goal.returns
-returns c =
-    let h = c.args.self.now in
-    let m = h.matrix in
-    let l = c.loop-j in
-    let old = h.elements.now in
-    let now = l.self.elements.now in
-    let v = l.invariant in
-    let e : l.j ≡ m.rows = omega arith in
-    let top = few h l.self _ _ v.matrix v.keeping l.auto.j-end in
-    let all = all_kept m.cols m.rows (k_of m) l.kept old now (rw e at v.keeping) in
-    let x : ℕ = k_of m * m.cols - l.kept * m.cols in
-    let behind = further (m.rows * m.cols) (k_of m * m.cols) now old (mul-le-mul_right m.cols (sized m (length old) h.fits).few) v.keeping.rest in
-    let cleared =
-    c.fill.ensures.after (search rules)
-    ∙ ap (λ (i : ℕ). replicate i 0) (length_part (l.kept * m.cols) x now (inside h l.self _ _ v.matrix v.keeping l.auto.j-end)) in
-    record {
-      matrix = ap (λ (n : DecoderMatrix). with_rows n l.kept) v.matrix ∙ ap (with_rows m) (sym all.1);
-      lent = v.lent;
-      left = cleared_behind m.cols (k_of m) l.kept x old now top all.0 all.1 behind (whole h l.self _ _ v.matrix v.keeping l.auto.j-end) cleared;
-    }
