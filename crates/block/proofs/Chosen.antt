@@ -20,6 +20,10 @@ passes false a b n e = (refl, e)
 pub admitted : (bad : Bool) {a : Answer} → a ≡ pick bad (Err BadState) (Ok tt) → a ≡ Ok tt → bad ≡ false
 admitted bad p o = (passes bad (Err BadState) (Ok tt) (omega arith) (sym p ∙ o)).0
 
+-- where a test `!self.holds(..)` is false
+pub accepts : (bad : Bool) {t : Bool} → t ≡ not bad → not t ≡ false → bad ≡ false
+accepts bad {t} e h = not-true bad (sym e ∙ not-false t h)
+
 -- Named in docs/PORT.md; no proof here cites them.
 
 pub counts : {t : Bool} (n : ℕ) → t ≡ true → Ok n ≡ counted t n

@@ -10,7 +10,7 @@ use native.Mathlib.Nat.{not-suc-le-zero, le_of_suc-le-suc, zero-add, suc-add}
 use native.Mathlib.Decide.{ℕ_discrete, dec_lt}
 use native.Mathlib.Omega.{arith}
 use lib.Dec.{eqb}
-use lib.ListN.{length, get_or}
+use lib.ListN.{length, get_or, replicate}
 use borrow.Author.Tests.{eq-eqb, ne_eqb}
 use Rattle.linear.specs.Choice.{pick}
 use Rattle.linear.specs.Rows.{all_zero}
@@ -103,6 +103,11 @@ unfolding all_zero
 zero_append [] ys = refl
 zero_append (zero ∷ xs) ys = zero_append xs ys
 zero_append (suc x ∷ xs) ys = refl
+
+pub zero_replicate : (n : ℕ) → all_zero (replicate n 0) ≡ true
+unfolding all_zero
+zero_replicate zero = refl
+zero_replicate (suc n) = zero_replicate n
 
 pub zero_each : (xs : List ℕ) → all_zero xs ≡ true → (j : ℕ) → get_or xs j 0 ≡ 0
 unfolding all_zero

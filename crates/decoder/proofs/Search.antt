@@ -9,12 +9,14 @@ use native.Mathlib.Numerals.{add-one}
 use native.Mathlib.Omega.{arith}
 use lib.ListN.{length, take, drop, take-append-drop, drop_of_length-le}
 use lib.Seq.{drop-drop, drop-append-le}
-use Rattle.std.specs.Prelude.{Some, None, Ok, Err}
+use Rattle.std.specs.Prelude.{Some, None, Result, Ok, Err}
 use Rattle.linear.specs.Rows.{all_zero}
 use Rattle.linear.specs.Choice.{pick}
 use Rattle.linear.proofs.Buffer.{row_end}
+use Rattle.block.specs.declared.BrokenPadding.{BrokenPadding}
 use Rattle.block.specs.declared.BrokenPadding.TheVariants.{MarkerAbsent, MarkerFirst, TailNotZero}
 use Rattle.block.specs.Reading.{last_marker, read_at, reading}
+use Rattle.block.proofs.Reading.{Reason, carried, reason}
 use Rattle.block.proofs.LastMarker.{last_front, zero_append}
 use Rattle.decoder.specs.declared.block_in.BlockIn.{BlockIn}
 use Rattle.decoder.specs.Payloads.{bytes}
@@ -78,3 +80,11 @@ module _ (M : ℕ) (block : List ℕ) where
 
   pub reads_data : (n : ℕ) → last_marker M block ≡ Some n → (n ≡ 0 → ⊥) → all_zero (drop (n + 1) block) ≡ true → Ok n ≡ reading M block
   reads_data n e q t = reads_some n e q true t
+
+  -- the data is shorter than the block
+  pub data_in : (n : ℕ) → reading M block ≡ Ok n → n < length block
+  data_in n e = go (reading M block) (reason M block) e
+    where
+      go : (p : Result ℕ BrokenPadding) → Reason M block p → p ≡ Ok n → n < length block
+      go (Ok m) (carried l p z) e = let same : m ≡ n = cc in omega (arith, l.inside)
+      go (Err b) r e = let z : ◌≡◌ {A = ℕ} 0 1 = cc in absurd (omega arith)

@@ -2,21 +2,25 @@
 -- Assumes nothing.
 use mathlib.Core.Path.{◌≡◌, sym, ap, ◌∙◌}
 use mathlib.Core.Bool.{true, false}
-use mathlib.Core.List.{List, ◌++◌}
+use mathlib.Core.List.{List, [], ◌++◌}
 use Prim.Native.Nat.{ℕ, ◌+◌, ◌-◌, ◌*◌, ◌≤◌, ◌<◌}
 use native.Mathlib.Nat.{mul-le-mul_right}
-use lib.ListN.{length, replicate}
+use native.Mathlib.Omega.{arith}
+use lib.ListN.{length, get_or, drop, replicate}
 use borrow.Author.Tests.{lt-ltb, le-ltb, eq-eqb, ne_eqb}
 use Rattle.std.specs.Prelude.{Ok, Err}
+use Rattle.answers.specs.Number.{Answer}
 use Rattle.answers.specs.declared.RLNCError.TheVariants.{InvalidPieceLength, BadState}
 use Rattle.galois.specs.FieldLaws.{FieldLaws}
 use Rattle.linear.specs.Rows.{swap_rows, forward, backward, drop_empty, reduce}
 use Rattle.linear.specs.Buffer.{put_row, Ruled, flat}
+use Rattle.linear.proofs.Buffer.{length_rows_of, length_row}
+use Rattle.linear.proofs.Steps.{length_swap, swap_row}
 use Rattle.decoder_matrix.specs.declared.DecoderMatrix.{DecoderMatrix}
 use Rattle.decoder_matrix.specs.declared.rules.Held.{Held}
 use Rattle.decoder_matrix.specs.Matrix.{k_of, sizes_fit, rows_in, with_rows, holding}
 use Rattle.decoder_matrix.specs.Outcomes.{RowAdded, Swapped, reduced, Reduced}
-use Rattle.linear.proofs.Flat.{as_flat, further}
+use Rattle.linear.proofs.Flat.{as_flat, flat_ruled, further, sizes_below}
 use Rattle.decoder_matrix.specs.Steps.{rows_of_held, kept_rows, Applied, Emptied}
 use Rattle.decoder_matrix.proofs.Sizes.{sized}
 use Rattle.decoder_matrix.proofs.Applied.{length_held, as_many, rows_after, and_then}
@@ -28,6 +32,20 @@ swapped m elements i j e hi hj q u = record {
   answer = rw (e, lt-ltb i m.rows hi, lt-ltb j m.rows hj);
   left = rw (e, lt-ltb i m.rows hi, lt-ltb j m.rows hj) (q ∙ as_flat u);
 }
+
+module _ (m : DecoderMatrix) (elements : List ℕ) (i j : ℕ) (e : sizes_fit m (length elements) ≡ true) (hi : i < m.rows) (hj : j < m.rows) where
+  -- what a caller learns
+  pub swapped_rows : {r : Answer} {last : List ℕ} → Swapped m elements i j r last → Ruled m.cols m.rows elements last (swap_rows (rows_in m elements) i j)
+  swapped_rows {r} {last} s =
+      let rows : List (List ℕ) = rows_in m elements in
+      let count : length rows ≡ m.rows = length_rows_of m.cols m.rows elements in
+      let w : m.rows * m.cols ≤ length elements = (sized m (length elements) e).held in
+      let size : (t : ℕ) → t < m.rows → length (get_or rows t []) ≡ m.cols = λ t h. length_row m.cols m.rows t elements h w in
+      let is : last ≡ flat (swap_rows rows i j) ++ drop (m.rows * m.cols) elements = rw (e, lt-ltb i m.rows hi, lt-ltb j m.rows hj) at s.left in
+      flat_ruled m.cols m.rows elements (swap_rows rows i j) (length_swap rows i j ∙ count)
+      (sizes_below m.cols (swap_rows rows i j)
+      (λ t h. swap_row rows i j (λ x. length x ≡ m.cols) (omega arith) (omega arith) (size i hi) (size j hj) t (size t (omega (arith, length_swap rows i j)))))
+      is
 
 -- the three rules, one after the other
 module _ (𝓕 : FieldLaws) {h₀ h₁ h₂ h₃ : Held} (a : Applied (forward 𝓕 h₀.matrix.rows) h₀ h₁) (b : Applied (backward 𝓕 h₁.matrix.rows) h₁ h₂) (e : Emptied h₂ h₃) where

@@ -4,7 +4,7 @@ use mathlib.Core.Path.{◌≡◌, refl, sym, ap, ◌∙◌, subst}
 use mathlib.Core.List.{List, []}
 use mathlib.Core.Option.{none, some}
 use Prim.Native.Nat.{ℕ, zero, suc, ◌+◌, ◌-◌, ◌*◌, ◌≤◌, ◌<◌}
-use native.Mathlib.Nat.{not-suc-le-zero, suc-ne-zero}
+use native.Mathlib.Nat.{not-suc-le-zero, suc-ne-zero, mul-le-mul_right}
 use native.Mathlib.Numerals.{add-one, sub-one}
 use native.Mathlib.Omega.{arith}
 use lib.ListN.{length, get_or, take, drop, set, drop_of_length-le}
@@ -13,12 +13,13 @@ use Rattle.galois.specs.FieldLaws.{FieldLaws}
 use Rattle.galois.specs.Quotient.{inverse_of}
 use Rattle.std.specs.Prelude.{Some, None, IsSome}
 use Rattle.linear.specs.Choice.{if_zero}
-use Rattle.linear.specs.Rows.{entry, first_nonzero, pivot_from, swap_rows, scale_row, clear_below, clear_pivoted, forward_at, forward, clear_above, backward_at, backward}
+use Rattle.linear.specs.Rows.{entry, first_nonzero, pivot_from, swap_rows, scale_row, clear_below, clear_pivoted, forward_at, forward, clear_above, backward_at, backward, drop_empty, reduce}
 use Rattle.linear.specs.Buffer.{rows_of, row_at, Ruled}
 use Rattle.linear.proofs.Buffer.{put, put_same, length_part, row_end, length_rows_of, row_at_lem, put_row_lem}
 use Rattle.linear.proofs.Pivot.{Pivot, pivot_spec}
 use Rattle.linear.proofs.Steps.{swap_first}
 use Rattle.linear.proofs.Sums.{length_scale}
+use Rattle.linear.proofs.Flat.{further}
 use Rattle.decoder_matrix.specs.Steps.{clear_range}
 use Rattle.decoder_matrix.proofs.Range.{range_keeps, range_above}
 
@@ -136,3 +137,14 @@ module _ (𝓕 : FieldLaws) where
             ∙ range_above 𝓕 i rows held (λ x. scale_row 𝓕 (ev x) (same x)) ∙ sym (backward_clears i rows nz);
         rest = s.rest ∙ u.rest;
       }
+
+  -- ---- rules 1, 2 and 3
+
+  pub rules : (f n k : ℕ) (a b c : List ℕ) → Ruled f n a b (forward 𝓕 n (rows_of f n a)) → Ruled f n b c (backward 𝓕 n (rows_of f n b)) → n ≤ k
+      → (drop_empty k (rows_of f n c) ≡ reduce 𝓕 k (rows_of f n a)) × (drop (k * f) c ≡ drop (k * f) a)
+  unfolding reduce
+  rules f n k a b c u w h =
+      let e : n ≡ length (rows_of f n a) = sym (length_rows_of f n a) in (
+        ap (drop_empty k) (w.rows ∙ ap (backward 𝓕 n) u.rows) ∙ ap (λ (i : ℕ). drop_empty k (backward 𝓕 i (forward 𝓕 i (rows_of f n a)))) e,
+        further (n * f) (k * f) c a (mul-le-mul_right f h) (w.rest ∙ u.rest),
+      )

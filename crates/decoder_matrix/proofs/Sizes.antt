@@ -1,19 +1,27 @@
 -- What the sizes of a matrix that fit say: every row held lies within the buffer lent.
 -- Assumes nothing.
-use mathlib.Core.Path.{◌≡◌, sym}
-use mathlib.Core.Bool.{true}
+use mathlib.Core.Path.{◌≡◌, refl, sym}
+use mathlib.Core.Bool.{Bool, true, false}
 use mathlib.Core.List.{List}
-use Prim.Native.Nat.{ℕ, ◌+◌, ◌*◌, ◌≤◌, ◌<◌}
-use native.Mathlib.Nat.{mul-le-mul_right}
+use Prim.Native.Nat.{ℕ, ◌+◌, ◌*◌, ◌/◌, ◌≤◌, ◌<◌}
+use native.Mathlib.Nat.{mul-le-mul_right, le-div_iff_mul-le, div-lt_iff_lt-mul}
 use native.Mathlib.Omega.{arith}
 use lib.Dec.{leb}
 use lib.ListN.{length, get_or}
 use Rattle.linear.proofs.Choice.{and_true}
 use Rattle.linear.specs.Rows.{entry}
 use Rattle.linear.proofs.Buffer.{row_end, entry_at}
-use borrow.Author.Tests.{leb-true, le-leb}
+use borrow.Author.Tests.{leb-true, leb-false, le-leb, lt-leb}
 use Rattle.decoder_matrix.specs.declared.DecoderMatrix.{DecoderMatrix}
 use Rattle.decoder_matrix.specs.Matrix.{k_of, sizes_fit, rows_in, with_rows}
+
+-- the test by a division, where k · c may be no usize
+pub by_division : (k c n : ℕ) → 0 < c → leb k (n / c) ≡ leb (k * c) n
+by_division k c n h = go (leb (k * c) n) refl
+  where
+    go : (t : Bool) → leb (k * c) n ≡ t → leb k (n / c) ≡ t
+    go true e = le-leb k (n / c) ((le-div_iff_mul-le h).1 (leb-true (k * c) n e))
+    go false e = lt-leb k (n / c) ((div-lt_iff_lt-mul h).1 (leb-false (k * c) n e))
 
 pub record Sized (m : DecoderMatrix) (n : ℕ) : Type 0 where
   pub few : m.rows ≤ k_of m

@@ -8,10 +8,30 @@ use native.Mathlib.Nat.{add-sub_cancel_left}
 use native.Mathlib.Decide.{dec_lt}
 use native.Mathlib.Omega.{arith}
 use lib.ListN.{length, get_or, take, drop, set}
-use lib.Seq.{set-set, set_comm, set-get_or, drop-drop, paste}
-use Rattle.linear.specs.Rows.{swap_rows}
+use lib.Seq.{get_or-set_same, set-set, set_comm, set-get_or, drop-drop, paste}
+use Rattle.linear.specs.Rows.{entry, swap_rows}
 use Rattle.linear.specs.Buffer.{rows_of, row_at, put_row, Ruled}
-use Rattle.linear.proofs.Buffer.{length_put, length_part, row_end, row_at_lem, put_row_lem}
+use Rattle.linear.proofs.Buffer.{entry_at, store_row, length_put, length_part, row_end, row_at_lem, put_row_lem}
+
+module _ (f n : ℕ) {old now : List ℕ} (rows : List (List ℕ)) (j t : ℕ) (row : List ℕ) (h : j < n) (k : t < f) (even : length rows ≡ n)
+    (u : Ruled f n old now (set rows j row)) where
+  -- the byte read from the row
+  pub read_byte : get_or now (j * f + t) 0 ≡ get_or row t 0
+  unfolding entry
+  read_byte =
+      sym (entry_at f n j t now h k) ∙ ap (λ (l : List (List ℕ)). get_or (get_or l j []) t 0) u.rows
+      ∙ ap (λ (r : List ℕ). get_or r t 0) (get_or-set_same rows j row [] (omega arith))
+
+  -- a byte stored into the row
+  pub stored : (v : ℕ) → n * f ≤ length now → Ruled f n old (set now (j * f + t) v) (set rows j (set row t v))
+  stored v w =
+      let s = store_row f n now j t v h k w in
+      record {
+        rows =
+            s.rows ∙ ap (λ (l : List (List ℕ)). set l j (set (get_or l j []) t v)) u.rows
+            ∙ ap (λ (r : List ℕ). set (set rows j row) j (set r t v)) (get_or-set_same rows j row [] (omega arith)) ∙ set-set rows j row (set row t v);
+        rest = s.rest ∙ u.rest;
+      }
 
 module _ (f n : ℕ) (old : List ℕ) (w : n * f ≤ length old) where
   abbrev R : List (List ℕ)

@@ -100,6 +100,14 @@ module _ (𝓕 : FieldLaws) {k L : ℕ} {step : Step} {Held : List (List ℕ) �
   rows_agree (took {rows = rows} p g n t) block a =
       step_agrees rows p (taken_held t) (taken_fits t) g block (more (all_head a) (rows_agree t block (all_tail a)))
 
+  pub rows_agreed : {pieces rows : List (List ℕ)} → Taken step k L pieces rows → (block other : List (List ℕ)) → Agrees 𝓕 k L pieces block
+      → Agrees 𝓕 k L rows other → Agrees 𝓕 k L pieces other
+  unfolding Agrees
+  rows_agreed fresh block other a o = none
+  rows_agreed (took {rows = rows} p g n t) block other a o =
+      let w = step_agreed rows p (taken_held t) (taken_fits t) g block other (more (all_head a) (rows_agree t block (all_tail a))) o in
+      more (all_head w) (rows_agreed t block other (all_tail a) (all_tail w))
+
   -- ---- complete, by the kernel: what any engine on the same pieces can be held to
 
   pub complete_trivial : {pieces rows : List (List ℕ)} → Taken step k L pieces rows → length rows ≡ k → Trivial 𝓕 k pieces

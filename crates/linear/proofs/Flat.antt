@@ -2,10 +2,10 @@
 -- Assumes nothing.
 use mathlib.Core.Path.{◌≡◌, refl, sym, ap, ◌∙◌}
 use mathlib.Core.List.{List, [], ◌∷◌, ◌++◌, append_assoc, append-nil}
-use Prim.Native.Nat.{ℕ, zero, suc, ◌+◌, ◌-◌, ◌*◌, ◌≤◌}
+use Prim.Native.Nat.{ℕ, zero, suc, ◌+◌, ◌-◌, ◌*◌, ◌≤◌, ◌<◌}
 use native.Mathlib.Nat.{zero-mul, mul-sub, mul_comm, mul-le-mul_right}
 use native.Mathlib.Omega.{arith}
-use lib.ListN.{length, take, drop, replicate, take-append-drop, drop_of_length-le, length-append}
+use lib.ListN.{length, get_or, take, drop, replicate, take-append-drop, drop_of_length-le, length-append}
 use lib.Seq.{take-add, drop-drop, take-length, take_at, drop_at}
 use Rattle.linear.specs.All.{All, none, more}
 use Rattle.linear.specs.Buffer.{rows_of, flat, Ruled}
@@ -31,10 +31,28 @@ rows_flat f (r ∷ rs) s (more e es) =
     ∙ (λ i. take_at r (flat rs ++ s) f e i ∷ rows_of f (length rs) (drop_at r (flat rs ++ s) f e i))
     ∙ ap (λ (l : List (List ℕ)). r ∷ l) (rows_flat f rs s es)
 
+pub rest_flat : (f : ℕ) (rows : List (List ℕ)) (s : List ℕ) → All (λ r. length r ≡ f) rows → drop (length rows * f) (flat rows ++ s) ≡ s
+unfolding flat
+rest_flat f [] s none = ap (λ (k : ℕ). drop k s) (zero-mul f)
+rest_flat f (r ∷ rs) s (more e es) =
+    (λ i. drop (suc_row f (length rs) i) (append_assoc r (flat rs) s i))
+    ∙ sym (drop-drop (length rs * f) f (r ++ (flat rs ++ s))) ∙ ap (drop (length rs * f)) (drop_at r (flat rs ++ s) f e) ∙ rest_flat f rs s es
+
 pub length_flat : (f : ℕ) (rows : List (List ℕ)) → All (λ r. length r ≡ f) rows → length (flat rows) ≡ length rows * f
 unfolding flat
 length_flat f [] none = sym (zero-mul f)
 length_flat f (r ∷ rs) (more e es) = length-append r (flat rs) ∙ (λ i. e i + length_flat f rs es i) ∙ sym (suc_row f (length rs))
+
+pub sizes_below : (f : ℕ) (rows : List (List ℕ)) → ((i : ℕ) → i < length rows → length (get_or rows i []) ≡ f) → All (λ r. length r ≡ f) rows
+sizes_below f [] h = none
+sizes_below f (r ∷ rs) h = more (h 0 (omega arith)) (sizes_below f rs (λ i k. h (suc i) (omega arith)))
+
+pub flat_ruled : (f n : ℕ) (old : List ℕ) (want : List (List ℕ)) {new : List ℕ} → length want ≡ n → All (λ r. length r ≡ f) want
+    → new ≡ flat want ++ drop (n * f) old → Ruled f n old new want
+flat_ruled f n old want {new} l s e = record {
+  rows = ap (rows_of f n) e ∙ ap (λ (k : ℕ). rows_of f k (flat want ++ drop (n * f) old)) (sym l) ∙ rows_flat f want (drop (n * f) old) s;
+  rest = ap (drop (n * f)) e ∙ ap (λ (k : ℕ). drop (k * f) (flat want ++ drop (n * f) old)) (sym l) ∙ rest_flat f want (drop (n * f) old) s;
+}
 
 -- what is behind stays behind
 pub further : {A : Type 0} (a b : ℕ) (x y : List A) → a ≤ b → drop a x ≡ drop a y → drop b x ≡ drop b y

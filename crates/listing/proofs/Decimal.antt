@@ -1,6 +1,6 @@
 -- The decimal digits of a number: those of its tenth, then one more; never more than 20.
 -- Assumes nothing.
-use mathlib.Core.Path.{◌≡◌, refl, ◌∙◌}
+use mathlib.Core.Path.{◌≡◌, refl, sym, ap, ◌∙◌}
 use mathlib.Core.List.{List, [], ◌∷◌, ◌++◌}
 use Prim.Native.Nat.{ℕ, zero, suc, ◌+◌, ◌/◌, ◌%◌, ◌^◌, ◌≤◌, ◌<◌}
 use native.Mathlib.Nat.{mod-eq_of_lt, div-eq_of_lt}
@@ -8,7 +8,7 @@ use native.Mathlib.Omega.{arith}
 use borrow.Author.Tests.{lt-ltb}
 use lib.ListN.{length, length-append}
 use Rattle.std.specs.Prelude.{decimal as std·decimal}
-use Rattle.std.proofs.lemmas.Fmt.{AppendsLastDigit, decimal_from_appends, length-decimal-le}
+use Rattle.std.proofs.lemmas.Fmt.{AppendsLastDigit, decimal_digit, decimal_from_appends, decimal_step, length-decimal-le}
 use Rattle.linear.specs.Choice.{if_zero}
 use Rattle.listing.specs.Text.{digit, decimal_by, decimal}
 
@@ -52,3 +52,16 @@ short (suc f) n =
 pub decimal_short : (n : ℕ) → length (decimal n) ≤ 20
 unfolding decimal
 decimal_short n = short 19 n
+
+-- one digit; and those of the tenth, then one more
+pub decimal_one : (n : ℕ) → n < 10 → decimal n ≡ digit n ∷ []
+decimal_one n h = printed n (omega arith) ∙ decimal_digit n h ∙ rw (lt-ltb n 10 h) refl
+
+pub decimal_more : (n : ℕ) → 10 ≤ n → n < 2 ^ 64 → decimal n ≡ decimal (n / 10) ++ (digit (n % 10) ∷ [])
+decimal_more n h fits =
+    rw (lt-ltb (n % 10) 10 (omega arith))
+    (printed n fits ∙ decimal_step n h fits ∙ ap (λ (l : List ℕ). l ++ ((48 + n % 10) ∷ [])) (sym (printed (n / 10) (omega arith))))
+
+pub decimal_room : (n : ℕ) → 10 ≤ n → n < 2 ^ 64 → length (decimal (n / 10)) < 20
+decimal_room n h fits =
+    omega (arith, decimal_short n, ap length (decimal_more n h fits), length-append (decimal (n / 10)) (digit (n % 10) ∷ []))

@@ -7,13 +7,13 @@ use native.Mathlib.Omega.{arith}
 use borrow.Rule.Slice.PartMut.{put_mid}
 use lib.ListN.{length, take, drop, length-append, length-drop, drop_of_length-le}
 use lib.Seq.{take_all, take-append_seam, drop-append_seam, drop-drop}
-use Rattle.std.specs.Prelude.{Result, Ok}
+use Rattle.std.specs.Prelude.{Result, Ok, Err}
 use Rattle.answers.specs.declared.RLNCError.{RLNCError}
 use Rattle.listing.specs.Puts.{Lined}
 use Rattle.listing.proofs.Putting.{placed}
-use Rattle.listing.proofs.Counting.{put_text, put_size}
+use Rattle.listing.proofs.Counting.{put_text, put_size, put_whole}
 
--- Named in docs/PORT.md; no proof here cites it.
+-- `two_lines` is named in docs/PORT.md; no proof here cites it or `never_refused`.
 
 module _ {first out last : List ℕ} {r : Result ℕ RLNCError} {end : ℕ} (second : List ℕ) (l : Lined first out r last)
     (h : length first + length second ≤ length out) (e : r ≡ Ok end) where
@@ -48,7 +48,10 @@ module _ {first out last : List ℕ} {r : Result ℕ RLNCError} {end : ℕ} (sec
     whole : Lined second rest r' last'
     whole = subst (λ (x : List ℕ). Lined second x r' last') part l'
 
-    sum_is : (size : ℕ) → r' ≡ Ok size → end + size ≡ length first + length second
+    pub never_refused : (e : RLNCError) → r' ≡ Err e → ⊥
+    never_refused e e' = put_whole whole room e e'
+
+    pub sum_is : (size : ℕ) → r' ≡ Ok size → end + size ≡ length first + length second
     sum_is size e' = omega (arith, begun, put_size whole room size e')
 
     pub two_lines : (size : ℕ) → r' ≡ Ok size → Lined (first ++ second) out (Ok (end + size)) (put_mid end (length last - end) last last')

@@ -100,12 +100,18 @@ as_brought (goes b o) = b
 as_opened : {r : Reader} {bytes : List ℕ} {next : Reader} {came : Came} {then : Result Record RLNCError} → Sound r bytes (Ok (brought_by next came then)) → Opened next.place then
 as_opened (goes b o) = o
 
+no_other : {r : Reader} {bytes : List ℕ} {a : RLNCError} → Sound r bytes (Err a) → a ≡ BadState
+no_other bad = refl
+
 module _ (r : Reader) (bytes : List ℕ) where
   pub brought : {next : Reader} {came : Came} {then : Result Record RLNCError} → progress r bytes ≡ Ok (brought_by next came then) → Brought r bytes next came
   brought e = as_brought (subst (Sound r bytes) e (sound r bytes))
 
   pub opens : {next : Reader} {came : Came} {then : Result Record RLNCError} → progress r bytes ≡ Ok (brought_by next came then) → Opened next.place then
   opens e = as_opened (subst (Sound r bytes) e (sound r bytes))
+
+  pub only_bad : {a : RLNCError} → progress r bytes ≡ Err a → a ≡ BadState
+  only_bad e = no_other (subst (Sound r bytes) e (sound r bytes))
 
   pub body_came : {next : Reader} {came : Came} {then : Result Record RLNCError} → progress r bytes ≡ Ok (brought_by next came then) → body_in came ≤ length bytes
   unfolding body_in

@@ -26,6 +26,10 @@ use Rattle.rlnc.specs.Given.{Given}
 use Rattle.rlnc.specs.Records.{EncoderMade, UnpaddedMade, RecoderMade, DecoderMade, PieceTaken, DataRecovered}
 use Rattle.rlnc.proofs.Given.{part_of, number_is as number_answered, given_number, given_value}
 
+pub if_ok_ap : {A B : Type 0} (f : A → B) (a : Answer) (x y : A) → f (if_ok a x y) ≡ if_ok a (f x) (f y)
+if_ok_ap f (Ok z) x y = refl
+if_ok_ap f (Err e) x y = refl
+
 -- ---- what `map` leaves, where its closure picks the number that is handed out
 
 module _ {P : Encoder → ℕ → Type 0} {m : Result Encoder RLNCError} {k L r L' : ℕ} {c : Result ℕ RLNCError} where

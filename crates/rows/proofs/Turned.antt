@@ -7,7 +7,7 @@ use Prim.Native.Nat.{ℕ, zero, suc, ◌+◌, ◌≤◌, ◌<◌}
 use native.Mathlib.Nat.{le_of_suc-le-suc, not-suc-le-zero, suc_inj, suc-ne-zero}
 use native.Mathlib.Numerals.{add-one}
 use native.Mathlib.Omega.{arith}
-use lib.ListN.{length, get_or, take, drop, set, take-append-drop, length-set}
+use lib.ListN.{length, get_or, take, drop, set, drop_of_length-le, take-append-drop, length-set}
 use lib.Seq.{set-get_or}
 
 module _ {A : Type 0} where
@@ -49,6 +49,11 @@ module _ {A : Type 0} where
   -- where the loop ends: from there on the new list is the old one
   pub ends : {new old now : List A} {i : ℕ} → Turned i new old now → drop i new ≡ drop i old → now ≡ new
   ends {new} {old} {now} {i} t f = t.mixed ∙ ap (λ (l : List A). take i new ++ l) (sym f) ∙ take-append-drop i new
+
+  pub ends_all : {new old now : List A} {i : ℕ} → Turned i new old now → length old ≤ i → now ≡ new
+  ends_all {new} {old} {now} {i} t h =
+      let k : length new ≤ i = omega (arith, t.even) in
+      ends t (drop_of_length-le new k ∙ sym (drop_of_length-le old h))
 
   -- the element that a turn finds
   pub finds : {new old now : List A} {i : ℕ} (d : A) → Turned i new old now → i < length old → get_or now i d ≡ get_or old i d

@@ -20,6 +20,7 @@ use Rattle.linear.proofs.All.{bytes_at}
 use Rattle.linear.proofs.Buffer.{sizes_of as widths_of}
 use Rattle.linear.proofs.Flat.{rows_flat}
 use Rattle.block.specs.Sizes.{over_limit, sized}
+use Rattle.block.proofs.LastMarker.{zero_replicate}
 use Rattle.linear.proofs.Choice.{or_false}
 use Rattle.stream.specs.declared.Geometry.{Geometry}
 use Rattle.stream.specs.declared.Geometry.TheVariants.{Of3By2, Of16By240, Of32By480}
@@ -36,11 +37,6 @@ use Rattle.stored.proofs.Forms.{kind_is, kind_of_lem, sizes_are, sizes_of, whole
 use Rattle.stored.proofs.Entries.{saves, loads}
 use Rattle.stored.proofs.OneResult.{saved_once, loaded_once}
 use Rattle.stored.proofs.Outcomes.{WasSaved, was_saved, WasLoaded, was_loaded}
-
-zeros_zero : (n : ℕ) → all_zero (replicate n 0) ≡ true
-unfolding all_zero
-zeros_zero zero = refl
-zeros_zero (suc n) = zeros_zero n
 
 zero_zeros : (xs : List ℕ) → all_zero xs ≡ true → xs ≡ replicate (length xs) 0
 unfolding all_zero
@@ -97,7 +93,7 @@ module _ (g : Geometry) (d : Decoder) (elements behind : List ℕ) (k_is : k_of 
   fine =
       fine_form g form (subst (λ (k : ℕ). rows_in d ≤ k) k_is h.numbers.rows_pieces) (subst (λ (k : ℕ). rows_in d ≤ k) (sym taken_is) h.numbers.rows_taken)
       (ap (λ (l : List ℕ). all_zero (drop (rows_in d * body_of g) l)) matrix_is
-      ∙ ap all_zero (drop_at (flat (held_rows d elements)) rest (rows_in d * body_of g) held_long) ∙ zeros_zero (matrix_size g - rows_in d * body_of g))
+      ∙ ap all_zero (drop_at (flat (held_rows d elements)) rest (rows_in d * body_of g) held_long) ∙ zero_replicate (matrix_size g - rows_in d * body_of g))
 
   whole : form_size g ≤ length form
   whole = simp length-append (omega (arith, length_form g d elements k_is l_is h.numbers.rows_pieces h.room))
@@ -110,6 +106,12 @@ module _ (g : Geometry) (d : Decoder) (elements behind : List ℕ) (k_is : k_of 
       ∙ (λ i. mul_comm (f_of d) (k_of d) i - mul_comm (f_of d) (rows_in d) i) ∙ (λ i. k_is i * (k_is i + l_is i) - rows_in d * (k_is i + l_is i)) in
       ap (λ (l : List ℕ). l ++ drop (matrix_size g) matrix) matrix_is ∙ append_assoc (flat (held_rows d elements)) rest (drop (matrix_size g) matrix)
       ∙ (λ i. flat (held_rows d elements) ++ (replicate (sym size i) 0 ++ drop (sym (whole_matrix g d elements k_is l_is) i) matrix))
+
+  front : (matrix : List ℕ) → take (k_of d * f_of d) (holding (k_of d) (f_of d) (held_rows d elements) matrix) ≡ form_matrix g form
+  front matrix =
+      (λ i. take (whole_matrix g d elements k_is l_is i) (sym (filled matrix) i))
+      ∙ take_at (form_matrix g form) (drop (matrix_size g) matrix) (matrix_size g)
+      (ap length matrix_is ∙ length_matrix g d elements k_is l_is h.numbers.rows_pieces h.room)
 
   held_again : (matrix : List ℕ) → held_rows d (holding (k_of d) (f_of d) (held_rows d elements) matrix) ≡ held_rows d elements
   unfolding held_rows
@@ -140,12 +142,20 @@ module _ {d : Decoder} {elements out out' : List ℕ} {n : ℕ} (s : Saving d el
       (fine g d elements behind k_is l_is h) refl) in
       (e ∙ ap Ok (decoder_is g d elements behind k_is l_is h), m ∙ filled g d elements behind k_is l_is h matrix)
 
-  -- so the loaded decoder holds the rows that the saved one held
+  -- so the loaded decoder goes on where the saved one was: the same held rows, and as much of the matrix as a decoder reads is as if the dropped
+  -- rows' area of the saved one had been cleared
   pub same_rows : (matrix : List ℕ) → held_rows d (holding (k_of d) (f_of d) (held_rows d elements) matrix) ≡ held_rows d elements
   same_rows matrix =
       let (k_is, l_is) = sizes_are (k_of d) (l_of d) it.geometry it.sizes in
       let h = holds d (length elements) it.fine in
       held_again it.geometry d elements [] k_is l_is h matrix
+
+  pub same_front : (matrix : List ℕ)
+      → take (k_of d * f_of d) (holding (k_of d) (f_of d) (held_rows d elements) matrix) ≡ take (k_of d * f_of d) (holding (k_of d) (f_of d) (held_rows d elements) elements)
+  same_front matrix =
+      let (k_is, l_is) = sizes_are (k_of d) (l_of d) it.geometry it.sizes in
+      let h = holds d (length elements) it.fine in
+      front it.geometry d elements [] k_is l_is h matrix ∙ sym (front it.geometry d elements [] k_is l_is h elements)
 
 -- ---- what loads
 
